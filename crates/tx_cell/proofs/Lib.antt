@@ -1,0 +1,10 @@
+pub mod AloneLemmas
+pub mod CellLemmas
+pub mod ClusterLemmas
+pub mod GridLemmas
+pub mod HeadLemmas
+pub mod LineLemmas
+pub mod PrintableLemmas
+pub mod StripLemmas
+pub mod WrapLaws
+pub mod WrapLemmas

@@ -1,0 +1,9 @@
+pub mod Cell
+pub mod Grid
+pub mod Lines
+pub mod Pen
+pub mod Plain
+pub mod Same
+pub mod Stored
+pub mod Strip
+pub mod Wrap
