@@ -1,0 +1,35 @@
+ghost use Rattle.tx_io.specs.Sending.{Sends, seen};
+
+use crate::sink::{Failed, Sink};
+
+/// What became of bytes that were sent.
+#[derive(Clone, Copy, Debug, PartialEq, Eq)]
+pub struct Sent {
+    /// How many of the bytes the sink took, from the front.
+    pub taken: u64,
+    /// Whether a put failed. Then no further one was made.
+    pub failed: bool,
+}
+
+/// Puts the bytes until all are taken or a put fails. No bytes make no put.
+pub fn send_all<K: Sink>(sink: &mut K, bytes: &[u8]) -> Sent
+    ensures { Sends (seen (K.taken sink.old) (K.faults sink.old)) (seen (K.taken sink.new) (K.faults sink.new)) bytes.now result }
+{
+    let mut rest = bytes;
+    while !rest.is_empty() {
+        match sink.put(rest) {
+            Ok(count) => (_, rest) = rest.split_at(count),
+            Err(Failed) => {
+                let taken = (bytes.len() - rest.len()) as u64;
+                return Sent {
+                    taken,
+                    failed: true,
+                };
+            }
+        }
+    }
+    Sent {
+        taken: bytes.len() as u64,
+        failed: false,
+    }
+}

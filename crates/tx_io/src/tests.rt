@@ -1,0 +1,115 @@
+use crate::{
+    Failed, Files, HostFiles, LoadFault, MemoryFiles, MemorySink, Sent, Sink, WriterSink, send_all,
+};
+use std::alloc::AllocError;
+use std::test::Fail;
+use std::{env, fs};
+
+/// Sends five bytes and then two to a sink that fails at these places.
+fn sent_twice(rt: &HostRuntime, fail_at: &[u64]) -> Result<(Sent, Sent, MemorySink), AllocError> {
+    let mut sink = MemorySink::new(rt.alloc(), fail_at.to_vec(rt.alloc())?);
+    let first = send_all(&mut sink, b"abcde");
+    let second = send_all(&mut sink, b"fg");
+    Ok((first, second, sink))
+}
+
+fn sent(taken: u64, failed: bool) -> Sent {
+    Sent { taken, failed }
+}
+
+#[test]
+fn sending_stops_at_each_failing_place_once(rt: HostRuntime) -> Result<(), Fail> {
+    let cases: [(&[u64], Sent, Sent, &[u8]); 6] = [
+        (&[], sent(5, false), sent(2, false), b"abcdefg"),
+        (&[0], sent(0, true), sent(2, false), b"fg"),
+        (&[3], sent(3, true), sent(2, false), b"abcfg"),
+        (&[5], sent(5, false), sent(0, true), b"abcde"),
+        (&[2, 3], sent(2, true), sent(1, true), b"abf"),
+        (&[9], sent(5, false), sent(2, false), b"abcdefg"),
+    ];
+    for (fail_at, first, second, taken) in cases {
+        let (one, two, sink) = sent_twice(&rt, fail_at)?;
+        assert_eq!(rt; one, first, "first, failing at {fail_at:?}");
+        assert_eq!(rt; two, second, "second, failing at {fail_at:?}");
+        assert_eq!(rt; sink.taken(), taken, "failing at {fail_at:?}");
+    }
+    Ok(())
+}
+
+#[test]
+fn no_bytes_make_no_put(rt: HostRuntime) -> Result<(), Fail> {
+    let mut sink = MemorySink::new(rt.alloc(), [0].to_vec(rt.alloc())?);
+    assert_eq!(rt; send_all(&mut sink, b""), sent(0, false));
+    assert_eq!(rt; sink.put(b""), Err(Failed));
+    assert_eq!(rt; sink.put(b""), Ok(0));
+    Ok(())
+}
+
+#[test]
+fn files_in_memory_load_by_their_first_entry(rt: HostRuntime) -> Result<(), Fail> {
+    let mut entries = Vec::new(rt.alloc());
+    let contents: [(&str, &[u8]); 3] = [("a", b"one"), ("b", b""), ("a", b"two")];
+    for (name, content) in contents {
+        let name = String::from_str(rt.alloc(), name)?;
+        entries.push((name, content.to_vec(rt.alloc())?))?;
+    }
+    let mut files = MemoryFiles::new(entries, [3].to_vec(rt.alloc())?);
+    let loads: [(&str, u64, Result<&[u8], LoadFault>); 7] = [
+        ("a", 3, Ok(b"one")),
+        ("a", 2, Err(LoadFault::TooLong)),
+        ("a", 3, Err(LoadFault::Failed)),
+        ("a", 9, Ok(b"one")),
+        ("b", 0, Ok(b"")),
+        ("c", 9, Err(LoadFault::Failed)),
+        ("", 9, Err(LoadFault::Failed)),
+    ];
+    for (name, limit, wanted) in loads {
+        let loaded = files.load(rt.alloc(), name, limit);
+        let loaded = match &loaded {
+            Ok(bytes) => Ok(bytes.as_slice()),
+            Err(fault) => Err(*fault),
+        };
+        assert_eq!(rt; loaded, wanted, "{name} at most {limit}");
+    }
+    Ok(())
+}
+
+#[test]
+fn a_writer_takes_what_is_put(rt: HostRuntime) -> Result<(), Fail> {
+    let mut written = Vec::new(rt.alloc());
+    let mut sink = WriterSink::new(&mut written);
+    assert_eq!(rt; send_all(&mut sink, b"one "), sent(4, false));
+    assert_eq!(rt; send_all(&mut sink, b"two"), sent(3, false));
+    assert_eq!(rt; written.as_slice(), b"one two".as_slice());
+    Ok(())
+}
+
+#[test]
+fn a_writer_without_room_fails(rt: HostRuntime) -> Result<(), Fail> {
+    let mut room = [0u8; 3];
+    let mut sink = WriterSink::new(room.as_mut_slice());
+    assert_eq!(rt; send_all(&mut sink, b"four"), sent(3, true));
+    assert_eq!(rt; sink.put(b""), Ok(0));
+    Ok(())
+}
+
+#[test]
+fn a_file_of_the_host_is_loaded_whole(rt: HostRuntime) -> Result<(), Fail> {
+    let mut path = env::temp_dir(&rt)?;
+    path.push("tx_io_loads_this_file")?;
+    let path = path.as_path().to_str();
+    let name = path.ok_or("no text")?;
+    fs::write(&rt, name, b"some bytes\xff")?;
+    let mut files = HostFiles::new(&rt);
+    let whole = files.load(rt.alloc(), name, 11);
+    let cut = files.load(rt.alloc(), name, 10);
+    fs::remove_file(&rt, name)?;
+    let gone = files.load(rt.alloc(), name, 11);
+    assert_eq!(rt;
+        whole.ok().ok_or("not loaded")?.as_slice(),
+        b"some bytes\xff".as_slice()
+    );
+    assert_eq!(rt; cut.err(), Some(LoadFault::TooLong));
+    assert_eq!(rt; gone.err(), Some(LoadFault::Failed));
+    Ok(())
+}
