@@ -1,0 +1,261 @@
+-- The run, from its parts, and what its causes say.
+use Rattle.std.proofs.Common.{◌≡◌, ◌≤◌, ◌+◌, ℕ, zero, suc, Bool, true, false, cond, List, [], ◌∷◌, ◌++◌, length, map, Option, None, Some, refl, ap, sym, ◌∙◌, arith, subst, IfSome, Result, Ok, Err}
+use Rattle.std.proofs.Math.Dec.{eqb-suc-zero}
+use Rattle.std.specs.Io.KnownBytes.{append_known}
+use Rattle.tx_io.specs.declared.files.LoadFault.TheVariants.{Failed, TooLong as PastLimit, NoMemory as NoRoom}
+use Rattle.tx_io.specs.declared.send.Sent.{Sent}
+use Rattle.tx_io.specs.Faults.{raised, Rose}
+use Rattle.tx_io.specs.Sending.{SinkSeen, failed_puts}
+use Rattle.tx_io.specs.Store.{Answer, LoadGives}
+use Rattle.tx_app.specs.Words.{Show, asked}
+use Rattle.tx_app.specs.TreeForm.{texts_of}
+use Rattle.tx_app.specs.SheetForm.{looks_of}
+use Rattle.tx_app.specs.Scene.{Scene, first_misfit}
+use Rattle.tx_app.specs.Run.{Reading, Opening, Stops, Opens, Refreshing, Unmade, Made, Course, IsCourse, IsShown, IsOfFiles, opening_of, show_opening, sheet_opening, failed_loads, bytes_of, faults_of, entry_of, cause_of, end_cause, sink_cause, unsent, file_limit, loaded, in_form, fitted}
+use Rattle.tx_app.specs.Opening.{GivesScene, OpensWords}
+use Rattle.tx_app.specs.Showing.{Runs, Shows}
+use Rattle.tx_app.specs.Faults.{CausedBy, HoldsScene, IsComplete, IsNoneOrMemory, read_faults, sink_faults}
+use Rattle.tx_app.specs.declared.outcome.Cause.{Cause}
+use Rattle.tx_app.specs.declared.outcome.Cause.TheVariants.{Usage, Refused, ReadFault, SinkFault, NoMemory}
+use Rattle.tx_app.specs.declared.outcome.Entry.{Entry}
+use Rattle.tx_app.specs.declared.sheet_form.Looks.{Looks}
+use Rattle.tx_app.proofs.ShowingLemmas.{append_known-nothing, raised-none}
+
+-- ---- the reading and the show, joined
+
+-- the reading stopped the run
+pub Runs-stop : (words : List (List ℕ)) (contents : Option (List ℕ → Option (List ℕ))) (files_before files_after : ℕ) (seen : SinkSeen) (cause : Cause)
+    → OpensWords contents files_before files_after words (Err cause) → Runs words contents files_before files_after seen seen [] (Some cause)
+Runs-stop words contents files_before files_after seen cause o = record {
+  reading = o.reading;
+  course = record { wanting = o.wanting; refreshes = []; closed = unsent };
+  of_files = o.of_files;
+  possible = possible (opening_of (asked words) o.reading) o.wanting o.gives;
+  loads = o.faults;
+  told = append_known-nothing seen.told ∙ ap (append_known seen.told) (nothing (opening_of (asked words) o.reading) o.wanting);
+  faults = raised-none seen.faults;
+  journal_is = refl;
+  cause_is = cause_is (opening_of (asked words) o.reading) o.wanting o.gives;
+}
+  where
+    possible : (opening : Opening) (wanting : Bool) → GivesScene wanting opening (Err cause) → IsCourse opening (record { wanting = wanting; refreshes = []; closed = unsent })
+    possible (Stops expected) wanting gives = (refl, refl)
+    possible (Opens scene) true gives = (refl, refl)
+    possible (Opens scene) false gives = absurd gives
+
+    nothing : (opening : Opening) (wanting : Bool) → [] ≡ bytes_of opening (record { wanting = wanting; refreshes = []; closed = unsent })
+    nothing (Stops expected) wanting = refl
+    nothing (Opens scene) wanting = refl
+
+    cause_is : (opening : Opening) (wanting : Bool) → GivesScene wanting opening (Err cause) → Some cause ≡ cause_of opening (record { wanting = wanting; refreshes = []; closed = unsent })
+    cause_is (Stops expected) wanting gives = ap Some gives
+    cause_is (Opens scene) true gives = ap Some gives
+    cause_is (Opens scene) false gives = absurd gives
+
+-- the scene was shown
+pub Runs-show : (words : List (List ℕ)) (contents : Option (List ℕ → Option (List ℕ))) (files_before files_after : ℕ) (before after : SinkSeen) (scene : Scene) (fresh journal : List Entry) (cause : Option Cause)
+    → OpensWords contents files_before files_after words (Ok scene) → fresh ≡ [] → Shows before after scene fresh journal cause → Runs words contents files_before files_after before after journal cause
+Runs-show words contents files_before files_after before after scene fresh journal cause o none s =
+    let opens : opening_of (asked words) o.reading ≡ Opens scene = is_scene (opening_of (asked words) o.reading) o.wanting o.gives in
+    record {
+      reading = o.reading;
+      course = s.course;
+      of_files = o.of_files;
+      possible = subst (λ p. IsCourse p s.course) (sym opens) s.possible;
+      loads = o.faults;
+      told = s.told ∙ ap (λ p. append_known before.told (bytes_of p s.course)) (sym opens);
+      faults = s.faults;
+      journal_is = s.journal ∙ ap (λ entries. entries ++ map entry_of s.course.refreshes) none;
+      cause_is = s.cause_is ∙ ap (λ p. cause_of p s.course) (sym opens);
+    }
+  where
+    is_scene : (opening : Opening) (wanting : Bool) → GivesScene wanting opening (Ok scene) → opening ≡ Opens scene
+    is_scene (Stops expected) wanting gives = absurd gives
+    is_scene (Opens found) false gives = ap Opens (sym gives)
+    is_scene (Opens found) true gives = absurd gives
+
+-- ---- what the causes say
+
+-- the reading stops for a failure only where one load failed
+abbrev OfReading : Opening → Type 0
+OfReading (Stops (ReadFault rose)) = rose ≡ 1
+OfReading (Stops (SinkFault rose)) = ⊥
+OfReading _ = Unit {0}
+
+loaded-of_reading : (name : List ℕ) (answer : Answer) (next : List ℕ → Opening) → ((bytes : List ℕ) → OfReading (next bytes)) → OfReading (loaded name answer next)
+loaded-of_reading name (Ok bytes) next rest = rest bytes
+loaded-of_reading name (Err Failed) next rest = refl
+loaded-of_reading name (Err PastLimit) next rest = tt
+loaded-of_reading name (Err NoRoom) next rest = tt
+
+in_form-of_reading : {A : Type 0} (name : List ℕ) (found : Result A ℕ) (next : A → Opening) → ((value : A) → OfReading (next value)) → OfReading (in_form name found next)
+in_form-of_reading name (Ok value) next rest = rest value
+in_form-of_reading name (Err line) next rest = tt
+
+opening-of_reading : (wanted : Option Show) (reading : Reading) → OfReading (opening_of wanted reading)
+opening-of_reading None reading = tt
+opening-of_reading (Some show) reading =
+    loaded-of_reading show.tree reading.tree (λ bytes. in_form show.tree (texts_of bytes) (λ texts. sheet_opening show texts reading.sheet)) (λ bytes.
+    in_form-of_reading show.tree (texts_of bytes) (λ texts. sheet_opening show texts reading.sheet) of_sheet)
+  where
+    of_fitted : (texts : List (List ℕ)) (looks : Looks) (misfit : Option ℕ) → OfReading (fitted show texts looks misfit)
+    of_fitted texts looks (Some i) = tt
+    of_fitted texts looks None = tt
+
+    of_sheet : (texts : List (List ℕ)) → OfReading (sheet_opening show texts reading.sheet)
+    of_sheet texts = loaded-of_reading show.sheet reading.sheet
+        (λ bytes. in_form show.sheet (looks_of bytes) (λ looks. fitted show texts looks (first_misfit show.size looks.statics.height 1 texts)))
+        (λ bytes. in_form-of_reading show.sheet (looks_of bytes) (λ looks. fitted show texts looks (first_misfit show.size looks.statics.height 1 texts))
+        (λ looks. of_fitted texts looks (first_misfit show.size looks.statics.height 1 texts)))
+
+rises : (n before after : ℕ) → after ≡ raised before (suc n) → Rose before after
+rises n before after is = omega (arith, is)
+
+-- a sink's cause is its failed puts
+sink_cause-some : (n : ℕ) → sink_cause (suc n) ≡ Some (SinkFault (suc n))
+sink_cause-some n = rw (eqb-suc-zero n) refl
+
+sink_cause-caused : (n before after : ℕ) → after ≡ raised before n → CausedBy (sink_faults (sink_cause n)) before after
+sink_cause-caused zero before after is = tt
+sink_cause-caused (suc n) before after is = rw (sink_cause-some n) (omega arith, is, rises n before after is)
+
+sink_cause-no_read : (n before after : ℕ) → CausedBy (read_faults (sink_cause n)) before after
+sink_cause-no_read zero before after = tt
+sink_cause-no_read (suc n) before after = rw (sink_cause-some n) tt
+
+stopped-read : (cause : Cause) (wanting : Bool) (before after : ℕ) → OfReading (Stops cause) → after ≡ raised before (failed_loads (Stops cause))
+    → CausedBy (read_faults (Some (cond wanting NoMemory cause))) before after
+stopped-read cause true before after of is = tt
+stopped-read (ReadFault rose) false before after of is = (omega (arith, of), is, omega (arith, of, is))
+stopped-read (SinkFault rose) false before after of is = absurd of
+stopped-read Usage false before after of is = tt
+stopped-read (Refused file line column kind) false before after of is = tt
+stopped-read NoMemory false before after of is = tt
+
+shown-read : (scene : Scene) (wanting : Bool) (refreshes : List Refreshing) (closed : Sent) (before after : ℕ)
+    → IsShown scene wanting refreshes closed → CausedBy (read_faults (cond wanting (Some NoMemory) (end_cause refreshes closed))) before after
+shown-read scene true refreshes closed before after possible = tt
+shown-read scene false [] closed before after possible = absurd possible
+shown-read scene false (Unmade ∷ []) closed before after possible = tt
+shown-read scene false (Made sent ∷ []) closed before after possible = sink_cause-no_read (failed_puts sent + failed_puts closed) before after
+shown-read scene false (refreshing ∷ next ∷ rest) closed before after possible = absurd possible
+
+read_fault-of : (opening : Opening) (course : Course) (before after : ℕ) → OfReading opening → IsCourse opening course → after ≡ raised before (failed_loads opening)
+    → CausedBy (read_faults (cause_of opening course)) before after
+read_fault-of (Stops cause) course before after of possible is = stopped-read cause course.wanting before after of is
+read_fault-of (Opens scene) course before after of possible is = shown-read scene course.wanting course.refreshes course.closed before after possible
+
+stopped-sink : (cause : Cause) (wanting : Bool) (before after : ℕ) → OfReading (Stops cause) → CausedBy (sink_faults (Some (cond wanting NoMemory cause))) before after
+stopped-sink cause true before after of = tt
+stopped-sink (ReadFault rose) false before after of = tt
+stopped-sink (SinkFault rose) false before after of = absurd of
+stopped-sink Usage false before after of = tt
+stopped-sink (Refused file line column kind) false before after of = tt
+stopped-sink NoMemory false before after of = tt
+
+shown-sink : (scene : Scene) (wanting : Bool) (refreshes : List Refreshing) (closed : Sent) (before after : ℕ)
+    → IsShown scene wanting refreshes closed → after ≡ raised before (faults_of refreshes closed)
+    → CausedBy (sink_faults (cond wanting (Some NoMemory) (end_cause refreshes closed))) before after
+shown-sink scene true refreshes closed before after possible is = tt
+shown-sink scene false [] closed before after possible is = absurd possible
+shown-sink scene false (Unmade ∷ []) closed before after possible is = tt
+shown-sink scene false (Made sent ∷ []) closed before after possible is = sink_cause-caused (failed_puts sent + failed_puts closed) before after is
+shown-sink scene false (refreshing ∷ next ∷ rest) closed before after possible is = absurd possible
+
+sink_fault-of : (opening : Opening) (course : Course) (before after : ℕ) → OfReading opening → IsCourse opening course → after ≡ raised before (faults_of course.refreshes course.closed)
+    → CausedBy (sink_faults (cause_of opening course)) before after
+sink_fault-of (Stops cause) course before after of possible is = stopped-sink cause course.wanting before after of
+sink_fault-of (Opens scene) course before after of possible is = shown-sink scene course.wanting course.refreshes course.closed before after possible is
+
+pub Runs-read_fault : (words : List (List ℕ)) (contents : Option (List ℕ → Option (List ℕ))) (files_before files_after : ℕ) (before after : SinkSeen) (journal : List Entry) (cause : Option Cause)
+    → Runs words contents files_before files_after before after journal cause → CausedBy (read_faults cause) files_before files_after
+Runs-read_fault words contents files_before files_after before after journal cause r =
+    rw r.cause_is (read_fault-of (opening_of (asked words) r.reading) r.course files_before files_after (opening-of_reading (asked words) r.reading) r.possible r.loads)
+
+pub Runs-sink_fault : (words : List (List ℕ)) (contents : Option (List ℕ → Option (List ℕ))) (files_before files_after : ℕ) (before after : SinkSeen) (journal : List Entry) (cause : Option Cause)
+    → Runs words contents files_before files_after before after journal cause → CausedBy (sink_faults cause) before.faults after.faults
+Runs-sink_fault words contents files_before files_after before after journal cause r =
+    rw r.cause_is (sink_fault-of (opening_of (asked words) r.reading) r.course before.faults after.faults (opening-of_reading (asked words) r.reading) r.possible r.faults)
+
+-- ---- files that hold a scene
+
+-- a reading of such files: a scene, a failed load, or want of memory
+abbrev Fine : Opening → Type 0
+Fine (Opens scene) = Unit {0}
+Fine (Stops (ReadFault rose)) = rose ≡ 1
+Fine (Stops NoMemory) = Unit {0}
+Fine (Stops _) = ⊥
+
+scene-fine : (scene : Scene) (opening : Opening) → opening ≡ Opens scene → Fine opening
+scene-fine scene opening is = subst Fine (sym is) tt
+
+sheet-fine : (show : Show) (texts : List (List ℕ)) (scene : Scene) (sheet : List ℕ) (answer : Answer) → LoadGives (Some sheet) file_limit answer → length sheet ≤ file_limit
+    → sheet_opening show texts (Ok sheet) ≡ Opens scene → Fine (sheet_opening show texts answer)
+sheet-fine show texts scene sheet (Ok bytes) gives short opens = scene-fine scene (sheet_opening show texts (Ok bytes)) (ap (λ b. sheet_opening show texts (Ok b)) gives.0 ∙ opens)
+sheet-fine show texts scene sheet (Err Failed) gives short opens = refl
+sheet-fine show texts scene sheet (Err PastLimit) gives short opens = absurd (omega (arith, gives, short))
+sheet-fine show texts scene sheet (Err NoRoom) gives short opens = tt
+
+texts-fine : (show : Show) (scene : Scene) (found : Result (List (List ℕ)) ℕ) (sheet : List ℕ) (answer : Answer) → LoadGives (Some sheet) file_limit answer → length sheet ≤ file_limit
+    → in_form show.tree found (λ texts. sheet_opening show texts (Ok sheet)) ≡ Opens scene → Fine (in_form show.tree found (λ texts. sheet_opening show texts answer))
+texts-fine show scene (Ok texts) sheet answer gives short opens = sheet-fine show texts scene sheet answer gives short opens
+texts-fine show scene (Err line) sheet answer gives short opens = absurd (subst Stopped opens tt)
+  where
+    Stopped : Opening → Type 0
+    Stopped (Stops cause) = Unit {0}
+    Stopped (Opens found) = ⊥
+
+tree-fine : (show : Show) (scene : Scene) (tree sheet : List ℕ) (of_tree of_sheet : Answer)
+    → LoadGives (Some tree) file_limit of_tree → length tree ≤ file_limit → LoadGives (Some sheet) file_limit of_sheet → length sheet ≤ file_limit
+    → show_opening show (record { tree = Ok tree; sheet = Ok sheet }) ≡ Opens scene → Fine (show_opening show (record { tree = of_tree; sheet = of_sheet }))
+tree-fine show scene tree sheet (Ok bytes) of_sheet gives short sheet_gives sheet_short opens =
+    texts-fine show scene (texts_of bytes) sheet of_sheet sheet_gives sheet_short (ap (λ b. in_form show.tree (texts_of b) (λ texts. sheet_opening show texts (Ok sheet))) gives.0 ∙ opens)
+tree-fine show scene tree sheet (Err Failed) of_sheet gives short sheet_gives sheet_short opens = refl
+tree-fine show scene tree sheet (Err PastLimit) of_sheet gives short sheet_gives sheet_short opens = absurd (omega (arith, gives, short))
+tree-fine show scene tree sheet (Err NoRoom) of_sheet gives short sheet_gives sheet_short opens = tt
+
+sink_cause-free : (n before after : ℕ) → after ≡ raised before n → (Rose before after → ⊥) → IsNoneOrMemory (sink_cause n)
+sink_cause-free zero before after is none = tt
+sink_cause-free (suc n) before after is none = absurd (none (rises n before after is))
+
+stopped-free : (cause : Cause) (wanting : Bool) (before after : ℕ) → Fine (Stops cause) → after ≡ raised before (failed_loads (Stops cause)) → (Rose before after → ⊥)
+    → IsNoneOrMemory (Some (cond wanting NoMemory cause))
+stopped-free cause true before after fine is none = tt
+stopped-free (ReadFault rose) false before after fine is none = absurd (none (omega (arith, fine, is)))
+stopped-free (SinkFault rose) false before after fine is none = absurd fine
+stopped-free Usage false before after fine is none = absurd fine
+stopped-free (Refused file line column kind) false before after fine is none = absurd fine
+stopped-free NoMemory false before after fine is none = tt
+
+shown-free : (scene : Scene) (wanting : Bool) (refreshes : List Refreshing) (closed : Sent) (before after : ℕ)
+    → IsShown scene wanting refreshes closed → after ≡ raised before (faults_of refreshes closed) → (Rose before after → ⊥)
+    → IsNoneOrMemory (cond wanting (Some NoMemory) (end_cause refreshes closed))
+shown-free scene true refreshes closed before after possible is none = tt
+shown-free scene false [] closed before after possible is none = absurd possible
+shown-free scene false (Unmade ∷ []) closed before after possible is none = tt
+shown-free scene false (Made sent ∷ []) closed before after possible is none = sink_cause-free (failed_puts sent + failed_puts closed) before after is none
+shown-free scene false (refreshing ∷ next ∷ rest) closed before after possible is none = absurd possible
+
+free-of : (opening : Opening) (course : Course) (files_before files_after before after : ℕ) → Fine opening → IsCourse opening course
+    → files_after ≡ raised files_before (failed_loads opening) → after ≡ raised before (faults_of course.refreshes course.closed)
+    → (Rose files_before files_after → ⊥) → (Rose before after → ⊥) → IsNoneOrMemory (cause_of opening course)
+free-of (Stops cause) course files_before files_after before after fine possible loads faults no_read no_sink = stopped-free cause course.wanting files_before files_after fine loads no_read
+free-of (Opens scene) course files_before files_after before after fine possible loads faults no_read no_sink =
+    shown-free scene course.wanting course.refreshes course.closed before after possible faults no_sink
+
+holds-fine : (words : List (List ℕ)) (told : List ℕ → Option (List ℕ)) (reading : Reading) (h : HoldsScene words told)
+    → IfSome (asked words) (λ show. IsOfFiles (Some told) show reading) → Fine (opening_of (asked words) reading)
+holds-fine words told reading h of_files =
+    let of_show : IsOfFiles (Some told) h.show reading = subst (λ wanted. IfSome wanted (λ show. IsOfFiles (Some told) show reading)) h.asks of_files in
+    let tree_gives : LoadGives (Some h.tree) file_limit reading.tree = subst (λ content. LoadGives content file_limit reading.tree) h.tree_told of_show.0 in
+    let sheet_gives : LoadGives (Some h.sheet) file_limit reading.sheet = subst (λ content. LoadGives content file_limit reading.sheet) h.sheet_told of_show.1 in
+    subst (λ wanted. Fine (opening_of wanted reading)) (sym h.asks)
+    (tree-fine h.show h.scene h.tree h.sheet reading.tree reading.sheet tree_gives h.tree_short sheet_gives h.sheet_short h.opens)
+
+pub Runs-complete : (words : List (List ℕ)) (contents : Option (List ℕ → Option (List ℕ))) (files_before files_after : ℕ) (before after : SinkSeen) (journal : List Entry) (cause : Option Cause)
+    → Runs words contents files_before files_after before after journal cause
+    → IfSome contents (λ told. IsComplete words told files_before files_after before.faults after.faults cause)
+Runs-complete words None files_before files_after before after journal cause r = tt
+Runs-complete words (Some told) files_before files_after before after journal cause r = λ h no_read no_sink.
+    rw r.cause_is (free-of (opening_of (asked words) r.reading) r.course files_before files_after before.faults after.faults (holds-fine words told r.reading h r.of_files)
+    r.possible r.loads r.faults no_read no_sink)

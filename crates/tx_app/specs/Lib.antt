@@ -1,0 +1,10 @@
+pub mod Faults
+pub mod Opening
+pub mod Reading
+pub mod Report
+pub mod Run
+pub mod Scene
+pub mod SheetForm
+pub mod Showing
+pub mod TreeForm
+pub mod Words

@@ -1,0 +1,213 @@
+-- The run: what is read, what is sent, and which journal, status and error line follow.
+use Rattle.std.specs.Prelude.{◌≡◌, ◌<◌, ℕ, ◌+◌, ◌==◌, Bool, true, false, List, [], ◌∷◌, ◌++◌, length, take, map, flat_map, Option, Some, None, Result, Ok, Err, IfSome, if◌then◌else◌, codes, decimal}
+use Rattle.std.specs.Io.KnownBytes.{append_known}
+use Rattle.tx_io.specs.declared.files.LoadFault.TheVariants.{Failed, TooLong as PastLimit, NoMemory as NoRoom}
+use Rattle.tx_io.specs.declared.send.Sent.{Sent}
+use Rattle.tx_io.specs.Faults.{raised}
+use Rattle.tx_io.specs.Sending.{SinkSeen, Sends, failed_puts}
+use Rattle.tx_io.specs.Store.{Answer, LoadGives}
+use Rattle.tx_term.specs.Update.{update, closing}
+use Rattle.tx_app.specs.Words.{Show, asked}
+use Rattle.tx_app.specs.TreeForm.{texts_of}
+use Rattle.tx_app.specs.SheetForm.{looks_of}
+use Rattle.tx_app.specs.Scene.{Scene, picture, at_first, first_misfit, scene_of}
+use Rattle.tx_app.specs.declared.outcome.Cause.{Cause}
+use Rattle.tx_app.specs.declared.outcome.Cause.TheVariants.{Usage, Refused, ReadFault, SinkFault, NoMemory}
+use Rattle.tx_app.specs.declared.outcome.Entry.{Entry}
+use Rattle.tx_app.specs.declared.outcome.Entry.TheVariants.{Refresh}
+use Rattle.tx_app.specs.declared.outcome.Outcome.{Outcome}
+use Rattle.tx_app.specs.declared.outcome.Refreshed.TheVariants.{Accepted, SinkFault as SinkFailed, NoMemory as NoGrid}
+use Rattle.tx_app.specs.declared.outcome.Refusal.{Refusal}
+use Rattle.tx_app.specs.declared.outcome.Refusal.TheVariants.{TooLong, Unbuilt}
+use Rattle.tx_app.specs.declared.sheet_form.Looks.{Looks}
+
+-- ---- reading
+
+-- the most bytes of a tree file or a sheet: 4 MiB
+abbrev pub file_limit : ℕ
+file_limit = 4194304
+
+-- What the loads of the tree and of the sheet answer. An answer to a load that isn't made decides nothing.
+pub record Reading : Type 0 where
+  pub tree : Answer
+  pub sheet : Answer
+
+-- where the files tell what they hold, the answers are those of their contents
+abbrev pub IsOfFiles : Option (List ℕ → Option (List ℕ)) → Show → Reading → Type 0
+IsOfFiles contents show reading =
+    IfSome contents (λ told. LoadGives (told show.tree) file_limit reading.tree × LoadGives (told show.sheet) file_limit reading.sheet)
+
+-- what the reading comes to: a cause that stops the run, or a scene
+pub data Opening : Type 0 where
+  Stops : Cause → Opening
+  Opens : Scene → Opening
+
+-- a file, by what its load answered
+abbrev pub loaded : List ℕ → Answer → (List ℕ → Opening) → Opening
+loaded name (Ok bytes) next = next bytes
+loaded name (Err Failed) next = Stops (ReadFault 1)
+loaded name (Err PastLimit) next = Stops (Refused name 0 0 TooLong)
+loaded name (Err NoRoom) next = Stops NoMemory
+
+-- what stands in a file, or its first line outside the form
+abbrev pub in_form : {A : Type 0} → List ℕ → Result A ℕ → (A → Opening) → Opening
+in_form name (Ok value) next = next value
+in_form name (Err line) next = Stops (Refused name line 1 Unbuilt)
+
+-- the scene, where all Statics fit; the i-th stands in line i + 1
+abbrev pub fitted : Show → List (List ℕ) → Looks → Option ℕ → Opening
+fitted show texts looks (Some i) = Stops (Refused show.tree (i + 1) 1 Unbuilt)
+fitted show texts looks None = Opens (scene_of show.size texts looks)
+
+-- the sheet, behind the tree
+abbrev pub sheet_opening : Show → List (List ℕ) → Answer → Opening
+sheet_opening show texts sheet =
+    loaded show.sheet sheet (λ bytes. in_form show.sheet (looks_of bytes) (λ looks.
+    fitted show texts looks (first_misfit show.size looks.statics.height 1 texts)))
+
+-- the tree, and then what its texts come to
+abbrev pub texts_opening : List ℕ → Answer → (List (List ℕ) → Opening) → Opening
+texts_opening name tree next = loaded name tree (λ bytes. in_form name (texts_of bytes) next)
+
+abbrev pub show_opening : Show → Reading → Opening
+show_opening show reading = texts_opening show.tree reading.tree (λ texts. sheet_opening show texts reading.sheet)
+
+-- the words, then the tree, then the sheet
+abbrev pub opening_of : Option Show → Reading → Opening
+opening_of None reading = Stops Usage
+opening_of (Some show) reading = show_opening show reading
+
+-- how many loads failed: the sheet is loaded only behind a tree that is in the form
+abbrev pub failed_loads : Opening → ℕ
+failed_loads (Stops (ReadFault rose)) = rose
+failed_loads _ = 0
+
+-- ---- what the inputs don't decide
+
+-- What became of a refresh: memory was wanting before the first byte, or the update was sent, so far as it was taken.
+pub data Refreshing : Type 0 where
+  Unmade : Refreshing
+  Made : Sent → Refreshing
+
+-- Whether memory was wanting outside a refresh, what became of each refresh, and what became of the closing bytes.
+pub record Course : Type 0 where
+  pub wanting : Bool
+  pub refreshes : List Refreshing
+  pub closed : Sent
+
+-- no closing bytes were sent
+abbrev pub unsent : Sent
+unsent = record { taken = 0; failed = false }
+
+-- these bytes can have been sent so: all of them where no put failed, and fewer where one did
+pub record CanBeSent (bytes : List ℕ) (sent : Sent) : Type 0 where
+  pub all : sent.failed ≡ false → sent.taken ≡ length bytes
+  pub part : sent.failed ≡ true → sent.taken < length bytes
+
+-- the update of the first refresh, which is whole
+abbrev pub first_update : Scene → List ℕ
+first_update scene = update (at_first scene.size) (picture scene) true
+
+abbrev pub CanBecome : List ℕ → Refreshing → Type 0
+CanBecome bytes Unmade = Unit {0}
+CanBecome bytes (Made sent) = CanBeSent bytes sent
+
+-- one refresh of a scene and then the closing bytes, unless memory was wanting before
+abbrev pub IsShown : Scene → Bool → List Refreshing → Sent → Type 0
+IsShown scene true refreshes closed = (refreshes ≡ []) × (closed ≡ unsent)
+IsShown scene false [] closed = ⊥
+IsShown scene false (refreshing ∷ []) closed = CanBecome (first_update scene) refreshing × CanBeSent closing closed
+IsShown scene false (_ ∷ _ ∷ _) closed = ⊥
+
+-- nothing is sent where the reading stops the run
+abbrev pub IsCourse : Opening → Course → Type 0
+IsCourse (Stops cause) course = (course.refreshes ≡ []) × (course.closed ≡ unsent)
+IsCourse (Opens scene) course = IsShown scene course.wanting course.refreshes course.closed
+
+-- ---- what follows
+
+-- the bytes on `out`: for each refresh a front of its update, and then a front of the closing bytes
+abbrev pub refresh_bytes : List ℕ → Refreshing → List ℕ
+refresh_bytes bytes Unmade = []
+refresh_bytes bytes (Made sent) = take sent.taken bytes
+
+abbrev pub bytes_of : Opening → Course → List ℕ
+bytes_of (Stops cause) course = []
+bytes_of (Opens scene) course = flat_map (refresh_bytes (first_update scene)) course.refreshes ++ take course.closed.taken closing
+
+-- how many puts of a refresh failed
+abbrev pub refresh_faults : Refreshing → ℕ
+refresh_faults Unmade = 0
+refresh_faults (Made sent) = failed_puts sent
+
+abbrev pub faults_of : List Refreshing → Sent → ℕ
+faults_of [] closed = failed_puts closed
+faults_of (refreshing ∷ rest) closed = refresh_faults refreshing + faults_of rest closed
+
+-- the journal: an entry for each refresh
+abbrev pub entry_of : Refreshing → Entry
+entry_of Unmade = Refresh NoGrid 0 0
+entry_of (Made sent) = Refresh (if sent.failed then SinkFailed else Accepted) sent.taken (failed_puts sent)
+
+-- the last refresh decides, and then the closing bytes
+abbrev pub sink_cause : ℕ → Option Cause
+sink_cause rose = if rose == 0 then None else Some (SinkFault rose)
+
+abbrev pub end_cause : List Refreshing → Sent → Option Cause
+end_cause [] closed = sink_cause (failed_puts closed)
+end_cause (Unmade ∷ []) closed = Some NoMemory
+end_cause (Made sent ∷ []) closed = sink_cause (failed_puts sent + failed_puts closed)
+end_cause (_ ∷ next ∷ rest) closed = end_cause (next ∷ rest) closed
+
+-- what stopped the run decides first
+abbrev pub cause_of : Opening → Course → Option Cause
+cause_of (Stops cause) course = Some (if course.wanting then NoMemory else cause)
+cause_of (Opens scene) course = if course.wanting then Some NoMemory else end_cause course.refreshes course.closed
+
+abbrev pub status_of : Option Cause → ℕ
+status_of None = 0
+status_of (Some Usage) = 1
+status_of (Some (Refused file line column kind)) = 2
+status_of (Some (ReadFault rose)) = 3
+status_of (Some (SinkFault rose)) = 5
+status_of (Some NoMemory) = 6
+
+abbrev pub kind_bytes : Refusal → List ℕ
+kind_bytes TooLong = codes "TooLong"
+kind_bytes Unbuilt = codes "Unbuilt"
+
+-- a file, a place in it, and what is wrong there
+abbrev pub refused_line : List ℕ → ℕ → ℕ → Refusal → List ℕ
+refused_line file line column kind =
+    codes "tx: " ++ file ++ codes ":" ++ decimal line ++ codes ":" ++ decimal column ++ codes ": " ++ kind_bytes kind ++ codes "\n"
+
+-- the line that says the cause
+abbrev pub error_line : Cause → List ℕ
+error_line Usage = codes "tx: usage\n"
+error_line (Refused file line column kind) = refused_line file line column kind
+error_line (ReadFault rose) = codes "tx: read fault\n"
+error_line (SinkFault rose) = codes "tx: sink fault\n"
+error_line NoMemory = codes "tx: no memory\n"
+
+-- what `err` is sent: nothing, or the line
+abbrev pub error_bytes : Option Cause → List ℕ
+error_bytes None = []
+error_bytes (Some cause) = error_line cause
+
+-- ---- the whole
+
+-- The run of these words over these files and sinks: there are answers of the loads, and a course, from which all
+-- follows.
+pub record IsRun (words : List (List ℕ)) (contents : Option (List ℕ → Option (List ℕ))) (files_before files_after : ℕ) (out_before out_after err_before err_after : SinkSeen) (outcome : Outcome) : Type 0 where
+  pub reading : Reading
+  pub course : Course
+  pub of_files : IfSome (asked words) (λ show. IsOfFiles contents show reading)
+  pub possible : IsCourse (opening_of (asked words) reading) course
+  pub loads : files_after ≡ raised files_before (failed_loads (opening_of (asked words) reading))
+  pub out : out_after.told ≡ append_known out_before.told (bytes_of (opening_of (asked words) reading) course)
+  pub puts : out_after.faults ≡ raised out_before.faults (faults_of course.refreshes course.closed)
+  pub journal : outcome.journal.items ≡ map entry_of course.refreshes
+  pub cause : outcome.cause ≡ cause_of (opening_of (asked words) reading) course
+  pub status : outcome.status ≡ status_of outcome.cause
+  pub error_sent : Sent
+  pub err : Sends err_before err_after (error_bytes outcome.cause) error_sent

@@ -1,0 +1,49 @@
+-- What the steps of a show do.
+use Rattle.std.specs.Prelude.{◌≡◌, ◌+◌, ◌-◌, ◌^◌, min, ℕ, List, ◌++◌, map, Option, Some, IfSome}
+use Rattle.std.specs.Io.KnownBytes.{append_known}
+use Rattle.tx_io.specs.declared.send.Sent.{Sent}
+use Rattle.tx_io.specs.Faults.{raised}
+use Rattle.tx_io.specs.Sending.{SinkSeen, failed_puts}
+use Rattle.tx_app.specs.Scene.{Scene}
+use Rattle.tx_app.specs.Words.{asked}
+use Rattle.tx_app.specs.Run.{Reading, IsOfFiles, opening_of, failed_loads, Refreshing, Course, CanBecome, first_update, refresh_bytes, refresh_faults, entry_of, Opens, IsCourse, bytes_of, faults_of, cause_of, sink_cause}
+use Rattle.tx_app.specs.declared.outcome.Cause.{Cause}
+use Rattle.tx_app.specs.declared.outcome.Cause.TheVariants.{NoMemory}
+use Rattle.tx_app.specs.declared.outcome.Entry.{Entry}
+use Rattle.tx_app.specs.declared.outcome.Entry.TheVariants.{Refresh}
+use Rattle.tx_app.specs.declared.outcome.Refreshed.TheVariants.{Accepted, SinkFault as SinkFailed, NoMemory as NoGrid}
+
+-- a refresh of a scene, by its entry
+pub record Refreshes (before after : SinkSeen) (scene : Scene) (entry : Entry) : Type 0 where
+  pub refreshing : Refreshing
+  pub possible : CanBecome (first_update scene) refreshing
+  pub told : after.told ≡ append_known before.told (refresh_bytes (first_update scene) refreshing)
+  pub faults : after.faults ≡ raised before.faults (refresh_faults refreshing)
+  pub entry_is : entry ≡ entry_of refreshing
+
+-- the cause of a run whose last refresh has this entry, behind the closing bytes
+abbrev pub entry_cause : Entry → Sent → Option Cause
+entry_cause (Refresh NoGrid sent faults) closed = Some NoMemory
+entry_cause (Refresh Accepted sent faults) closed = sink_cause (min (faults + failed_puts closed) (2 ^ 64 - 1))
+entry_cause (Refresh SinkFailed sent faults) closed = sink_cause (min (faults + failed_puts closed) (2 ^ 64 - 1))
+
+-- the show of a scene: what became of it, the entries, and the cause
+pub record Shows (before after : SinkSeen) (scene : Scene) (journal_before journal_after : List Entry) (cause : Option Cause) : Type 0 where
+  pub course : Course
+  pub possible : IsCourse (Opens scene) course
+  pub told : after.told ≡ append_known before.told (bytes_of (Opens scene) course)
+  pub faults : after.faults ≡ raised before.faults (faults_of course.refreshes course.closed)
+  pub journal : journal_after ≡ journal_before ++ map entry_of course.refreshes
+  pub cause_is : cause ≡ cause_of (Opens scene) course
+
+-- the run up to its error line
+pub record Runs (words : List (List ℕ)) (contents : Option (List ℕ → Option (List ℕ))) (files_before files_after : ℕ) (before after : SinkSeen) (journal : List Entry) (cause : Option Cause) : Type 0 where
+  pub reading : Reading
+  pub course : Course
+  pub of_files : IfSome (asked words) (λ show. IsOfFiles contents show reading)
+  pub possible : IsCourse (opening_of (asked words) reading) course
+  pub loads : files_after ≡ raised files_before (failed_loads (opening_of (asked words) reading))
+  pub told : after.told ≡ append_known before.told (bytes_of (opening_of (asked words) reading) course)
+  pub faults : after.faults ≡ raised before.faults (faults_of course.refreshes course.closed)
+  pub journal_is : journal ≡ map entry_of course.refreshes
+  pub cause_is : cause ≡ cause_of (opening_of (asked words) reading) course

@@ -1,0 +1,43 @@
+-- What the words of a command line ask for.
+use Rattle.std.specs.Prelude.{ℕ, ◌≤◌, Bool, true, not, ◌&&◌, nat_le, ◌==◌, List, [], ◌∷◌, length, Option, Some, None, if◌then◌else◌, codes, option_and_then, option_map}
+use Rattle.std.specs.Str.{bytes_eq}
+use Rattle.tx_geom.specs.declared.places.Size.{Size}
+use Rattle.tx_read.specs.Number.{number_at_most}
+
+-- one picture of a tree under a sheet, each named by its file, on a screen of this size
+pub record Show : Type 0 where
+  pub tree : List ℕ
+  pub sheet : List ℕ
+  pub size : Size
+
+-- a screen within the limits
+pub record IsScreen (size : Size) : Type 0 where
+  pub width : size.width ≤ 1024
+  pub height : size.height ≤ 512
+
+-- a file name doesn't begin with `-`
+abbrev pub is_file : List ℕ → Bool
+is_file [] = true
+is_file (first ∷ _) = not (first == 45)
+
+-- a size from 1 to a greatest one, in at most 10 digits
+abbrev pub side : ℕ → List ℕ → Option ℕ
+side greatest word = if nat_le (length word) 10 then option_and_then (λ n. if nat_le 1 n then Some n else None) (number_at_most greatest word) else None
+
+abbrev pub size_of_sides : Option ℕ → Option ℕ → Option Size
+size_of_sides width height = option_and_then (λ w. option_map (λ h. record { width = w; height = h }) height) width
+
+-- the options: none, or a width and a height
+abbrev pub size_of : List (List ℕ) → Option Size
+size_of [] = Some (record { width = 80; height = 24 })
+size_of (name ∷ width ∷ other ∷ height ∷ []) =
+    if bytes_eq name (codes "--width") && bytes_eq other (codes "--height") then size_of_sides (side 1024 width) (side 512 height) else None
+size_of _ = None
+
+-- the words behind the program's name: `show`, the two files, the options
+abbrev pub asked : List (List ℕ) → Option Show
+asked (_ ∷ mode ∷ tree ∷ sheet ∷ options) =
+    if bytes_eq mode (codes "show") && (is_file tree && is_file sheet)
+    then option_map (λ size. record { tree = tree; sheet = sheet; size = size }) (size_of options)
+    else None
+asked _ = None

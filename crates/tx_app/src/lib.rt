@@ -1,0 +1,18 @@
+//! What the program does: from words, files and sinks to an outcome.
+#![tactic(auto)]
+
+mod open;
+mod outcome;
+mod report;
+mod run;
+mod scene;
+mod sheet_form;
+#[cfg(test)]
+mod tests;
+mod text;
+mod tree_form;
+mod words;
+
+pub use outcome::{Cause, Entry, Outcome, Refreshed, Refusal};
+pub use run::top_alone;
+pub use text::Text;

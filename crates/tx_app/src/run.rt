@@ -1,0 +1,190 @@
+//! The run.
+ghost use Rattle.std.specs.Prelude.{◌≡◌, [], map, IfSome, string_bytes};
+ghost use Rattle.tx_io.specs.Sending.{seen, Sends, failed_puts};
+ghost use Rattle.tx_app.specs.Run.{IsRun, status_of, entry_of, Made};
+ghost use Rattle.tx_app.specs.Scene.{at_first};
+ghost use Rattle.tx_app.specs.Showing.{Refreshes, Runs, Shows, entry_cause};
+ghost use Rattle.tx_app.specs.Faults.{CausedBy, IsComplete, read_faults, sink_faults};
+ghost use Rattle.tx_term.specs.Update.{closing};
+
+use crate::open::open_words;
+use crate::outcome::{Cause, Entry, Outcome, Refreshed};
+use crate::report::report;
+use crate::scene::Scene;
+use std::alloc::Global;
+use tx_cell::{Cell, Grid, Pen, TextStyle};
+use tx_geom::Rgb;
+use tx_io::{Files, Sent, Sink, send_all};
+use tx_term::{CLOSING, present};
+
+const WHITE_ON_BLACK: Pen = Pen {
+    fore: Rgb {
+        r: 0xff,
+        g: 0xff,
+        b: 0xff,
+    },
+    back: Rgb { r: 0, g: 0, b: 0 },
+    style: TextStyle {
+        bold: false,
+        dim: false,
+        italic: false,
+        underline: false,
+        reverse: false,
+        strike: false,
+    },
+};
+
+fn entry_of(sent: Sent) -> Entry
+    ensures { result ≡ entry_of (Made sent) }
+{
+    if sent.failed {
+        Entry::Refresh {
+            result: Refreshed::SinkFault,
+            sent: sent.taken,
+            faults: 1,
+        }
+    } else {
+        Entry::Refresh {
+            result: Refreshed::Accepted,
+            sent: sent.taken,
+            faults: 0,
+        }
+    }
+}
+
+/// The entry of a refresh for which memory was wanting.
+const UNMADE: Entry = Entry::Refresh {
+    result: Refreshed::NoMemory,
+    sent: 0,
+    faults: 0,
+};
+
+/// Makes the picture and sends its update, which is whole.
+fn refresh<K: Sink>(alloc: Global, scene: &Scene, shown: &mut Grid, out: &mut K) -> Entry
+    requires { shown.old ≡ at_first scene.now.size }
+    ensures { Refreshes (seen (K.taken out.old) (K.faults out.old)) (seen (K.taken out.new) (K.faults out.new)) scene.now result }
+{
+    match scene.paint(alloc) {
+        Ok(next) => entry_of(present(shown, &next, true, out)),
+        Err(_) => UNMADE,
+    }
+}
+
+fn send_closing<K: Sink>(out: &mut K) -> Sent
+    ensures { Sends (seen (K.taken out.old) (K.faults out.old)) (seen (K.taken out.new) (K.faults out.new)) closing result }
+{
+    send_all(out, CLOSING)
+}
+
+fn failures(sent: Sent) -> u64
+    ensures { result ≡ failed_puts sent }
+{
+    if sent.failed { 1 } else { 0 }
+}
+
+/// The cause of a run whose last refresh has this entry, behind the closing bytes.
+fn end_cause(entry: Entry, closed: Sent) -> Option<Cause>
+    ensures { result ≡ entry_cause entry closed }
+{
+    let Entry::Refresh { result, faults, .. } = entry;
+    match result {
+        Refreshed::NoMemory => Some(Cause::NoMemory),
+        _ => {
+            let rose = faults.saturating_add(failures(closed));
+            if rose == 0 {
+                None
+            } else {
+                Some(Cause::SinkFault { rose })
+            }
+        }
+    }
+}
+
+/// One refresh of a scene and then the closing bytes, unless memory is wanting before.
+fn show<K: Sink>(
+    alloc: Global,
+    scene: &Scene,
+    out: &mut K,
+    journal: &mut Vec<Entry>,
+) -> Option<Cause>
+    ensures { Shows (seen (K.taken out.old) (K.faults out.old)) (seen (K.taken out.new) (K.faults out.new)) scene.now journal.old.items journal.new.items result }
+{
+    if journal.try_reserve(1).is_err() {
+        return Some(Cause::NoMemory);
+    }
+    let mut shown = match Grid::open(alloc, scene.size, Cell::blank(WHITE_ON_BLACK)) {
+        Ok(shown) => shown,
+        Err(_) => return Some(Cause::NoMemory),
+    };
+    let entry = refresh(alloc, scene, &mut shown, out);
+    let closed = send_closing(out);
+    match journal.push(entry) {
+        Ok(()) => end_cause(entry, closed),
+        Err(_) => unreachable!(),
+    }
+}
+
+fn run<F: Files, K: Sink>(
+    alloc: Global,
+    words: &[String],
+    files: &mut F,
+    out: &mut K,
+    journal: &mut Vec<Entry>,
+) -> Option<Cause>
+    requires { journal.old.items ≡ [] }
+    ensures { Runs (map string_bytes words.now) (F.contents files.old) (F.faults files.old) (F.faults files.new) (seen (K.taken out.old) (K.faults out.old)) (seen (K.taken out.new) (K.faults out.new)) journal.new.items result }
+{
+    match open_words(alloc, files, words) {
+        Ok(scene) => show(alloc, &scene, out, journal),
+        Err(cause) => Some(cause),
+    }
+}
+
+fn status_of(cause: &Option<Cause>) -> u8
+    ensures { result ≡ status_of cause.now }
+{
+    match cause {
+        None => 0,
+        Some(Cause::Usage) => 1,
+        Some(Cause::Refused { .. }) => 2,
+        Some(Cause::ReadFault { .. }) => 3,
+        Some(Cause::SinkFault { .. }) => 5,
+        Some(Cause::NoMemory) => 6,
+    }
+}
+
+/// Does what the words ask for, the program's name before them.
+///
+/// `show TREE SHEET`, with `--width W --height H` behind it or without, sends one whole update of
+/// the picture of the tree under the sheet to `out`, and then the closing bytes. A file is loaded
+/// once, when its turn comes, and nothing is sent before all is read. Where the status isn't 0 a
+/// line to `err` says why. No call on `files` comes after one that failed, and what `err` takes
+/// changes nothing.
+pub fn top_alone<F: Files, K: Sink, E: Sink>(
+    alloc: Global,
+    words: &[String],
+    files: &mut F,
+    out: &mut K,
+    err: &mut E,
+) -> Outcome
+    ensures run { IsRun (map string_bytes words.now) (F.contents files.old) (F.faults files.old) (F.faults files.new)
+        (seen (K.taken out.old) (K.faults out.old)) (seen (K.taken out.new) (K.faults out.new))
+        (seen (E.taken err.old) (E.faults err.old)) (seen (E.taken err.new) (E.faults err.new)) result }
+
+    // Status 3 comes only where a load failed in this call, and status 5 only where a put on `out` did.
+    ensures read_fault { CausedBy (read_faults result.cause) (F.faults files.old) (F.faults files.new) }
+    ensures sink_fault { CausedBy (sink_faults result.cause) (K.faults out.old) (K.faults out.new) }
+
+    // Words and files in the form, and no rise of a count, give status 0 or want of memory.
+    ensures complete { IfSome (F.contents files.old) (λ told. IsComplete (map string_bytes words.now) told
+        (F.faults files.old) (F.faults files.new) (K.faults out.old) (K.faults out.new) result.cause) }
+{
+    let mut journal = Vec::new(alloc);
+    let cause = run(alloc, words, files, out, &mut journal);
+    report(err, &cause);
+    Outcome {
+        status: status_of(&cause),
+        journal,
+        cause,
+    }
+}

@@ -1,0 +1,369 @@
+use crate::{Cause, Entry, Outcome, Refreshed, Refusal, top_alone};
+use std::alloc::AllocError;
+use std::test::Fail;
+use tx_io::{MemoryFiles, MemorySink};
+
+/// What a run is given.
+#[derive(Clone, Copy)]
+struct Given<'a> {
+    words: &'a [&'a str],
+    tree: &'a [u8],
+    sheet: &'a [u8],
+    /// The numbers of the loads that fail.
+    failing_loads: &'a [u64],
+    /// The places at which a put on `out` or `err` fails once.
+    out_fails: &'a [u64],
+    err_fails: &'a [u64],
+}
+
+/// What became of it.
+#[derive(Drop)]
+struct Ran {
+    outcome: Outcome,
+    out: MemorySink,
+    err: MemorySink,
+}
+
+fn words_of(rt: &HostRuntime, words: &[&str]) -> Result<Vec<String>, AllocError> {
+    let mut all = Vec::new(rt.alloc());
+    for word in words {
+        all.push(String::from_str(rt.alloc(), word)?)?;
+    }
+    Ok(all)
+}
+
+fn files_of(rt: &HostRuntime, given: &Given) -> Result<MemoryFiles, AllocError> {
+    let mut entries = Vec::new(rt.alloc());
+    entries.push((
+        String::from_str(rt.alloc(), "t.tree")?,
+        given.tree.to_vec(rt.alloc())?,
+    ))?;
+    entries.push((
+        String::from_str(rt.alloc(), "s.tcss")?,
+        given.sheet.to_vec(rt.alloc())?,
+    ))?;
+    let failing = given.failing_loads.to_vec(rt.alloc())?;
+    Ok(MemoryFiles::new(entries, failing))
+}
+
+fn run(rt: &HostRuntime, given: &Given) -> Result<Ran, AllocError> {
+    let words = words_of(rt, given.words)?;
+    let mut files = files_of(rt, given)?;
+    let mut out = MemorySink::new(rt.alloc(), given.out_fails.to_vec(rt.alloc())?);
+    let mut err = MemorySink::new(rt.alloc(), given.err_fails.to_vec(rt.alloc())?);
+    let outcome = top_alone(rt.alloc(), &words, &mut files, &mut out, &mut err);
+    Ok(Ran { outcome, out, err })
+}
+
+const CLOSING: &[u8] = b"\x18\x1b[0m\x1b[?25h\x1b[?1049l";
+
+const BLANK: &[u8] =
+    b"\x18\x1b[?1049h\x1b[?25l\x1b[0m\x1b[2J\x1b[1;1H\x1b[0;38;2;224;224;224;48;2;18;18;18m    \x1b[2;1H    \x18\x1b[0m\x1b[?25h\x1b[?1049l";
+
+const TWO: &[u8] =
+    b"\x18\x1b[?1049h\x1b[?25l\x1b[0m\x1b[2J\x1b[1;1H\x1b[0;38;2;255;255;255;48;2;0;0;0mab    \x1b[2;1H      \x18\x1b[0m\x1b[?25h\x1b[?1049l";
+
+const TALL: &[u8] =
+    b"\x18\x1b[?1049h\x1b[?25l\x1b[0m\x1b[2J\x1b[1;1H\x1b[0;38;2;10;11;12;48;2;1;2;3mx \x1b[2;1H  \x1b[3;1Hyz\x1b[4;1H  \x1b[5;1H\x1b[0;38;2;10;11;12;48;2;18;18;18m  \x18\x1b[0m\x1b[?25h\x1b[?1049l";
+
+const SIX_BY_TWO: &[&str] = &[
+    "tx", "show", "t.tree", "s.tcss", "--width", "6", "--height", "2",
+];
+
+/// Two Statics on a screen of 6 by 2.
+const STATICS: Given<'_> = Given {
+    words: SIX_BY_TWO,
+    tree: b"Screen\n  Static \"ab\"\n  Static\n",
+    sheet: b"Static { height: 1; color: #ffffff; }\nScreen { background: #000000; }\n",
+    failing_loads: &[],
+    out_fails: &[],
+    err_fails: &[],
+};
+
+fn expect(fine: bool, what: &'static str) -> Result<(), Fail> {
+    if fine { Ok(()) } else { Err(Fail::from(what)) }
+}
+
+/// A picture that is shown whole: these bytes, of which so many are the update.
+fn shows(rt: &HostRuntime, given: &Given, bytes: &[u8], update: u64) -> Result<(), Fail> {
+    let ran = run(rt, given)?;
+    let entry = Entry::Refresh {
+        result: Refreshed::Accepted,
+        sent: update,
+        faults: 0,
+    };
+    expect(ran.out.taken() == bytes, "the bytes")?;
+    expect(ran.err.taken().is_empty(), "the error line")?;
+    expect(
+        ran.outcome.status == 0 && ran.outcome.cause.is_none(),
+        "the status",
+    )?;
+    expect(
+        ran.outcome.journal.as_slice() == [entry].as_slice(),
+        "the journal",
+    )
+}
+
+#[test]
+fn a_screen_alone_is_97_bytes(rt: HostRuntime) -> Result<(), Fail> {
+    let given = Given {
+        words: &[
+            "tx", "show", "t.tree", "s.tcss", "--width", "4", "--height", "2",
+        ],
+        tree: b"Screen\n",
+        sheet: b"",
+        ..STATICS
+    };
+    assert_eq!(rt; BLANK.len(), 97);
+    shows(&rt, &given, BLANK, 78)
+}
+
+#[test]
+fn two_statics_are_98_bytes(rt: HostRuntime) -> Result<(), Fail> {
+    assert_eq!(rt; TWO.len(), 98);
+    shows(&rt, &STATICS, TWO, 79)
+}
+
+/// Statics of two rows have their text in the first, the Screen shows below them, and of two
+/// declarations the last wins.
+#[test]
+fn statics_of_two_rows_have_their_text_in_the_first(rt: HostRuntime) -> Result<(), Fail> {
+    let given = Given {
+        words: &[
+            "tx", "show", "t.tree", "s.tcss", "--width", "2", "--height", "5",
+        ],
+        tree: b"Screen\n  Static \"x\"\n  Static \"yz\"\n",
+        sheet: b"Static { height: 9; height: 2; background: #010203; }\nScreen { color: #0a0b0c; }\n",
+        ..STATICS
+    };
+    shows(&rt, &given, TALL, 124)
+}
+
+/// What a sink takes that fails once, at `k`: the update up to there and the closing bytes, or
+/// the closing bytes up to there.
+fn taken_at(rt: &HostRuntime, k: u64) -> Result<Vec<u8>, AllocError> {
+    let front = TWO.split_at((k as usize).min(TWO.len())).0;
+    let mut bytes = front.to_vec(rt.alloc())?;
+    if k < 79 {
+        bytes.extend_from_slice(CLOSING)?;
+    }
+    Ok(bytes)
+}
+
+fn entry_at(k: u64) -> Entry {
+    if k < 79 {
+        Entry::Refresh {
+            result: Refreshed::SinkFault,
+            sent: k,
+            faults: 1,
+        }
+    } else {
+        Entry::Refresh {
+            result: Refreshed::Accepted,
+            sent: 79,
+            faults: 0,
+        }
+    }
+}
+
+#[test]
+fn a_sink_may_fail_at_each_byte(rt: HostRuntime) -> Result<(), Fail> {
+    for k in 0..98u64 {
+        let ran = run(
+            &rt,
+            &Given {
+                out_fails: &[k],
+                ..STATICS
+            },
+        )?;
+        assert_eq!(rt; ran.out.taken(), taken_at(&rt, k)?.as_slice());
+        assert_eq!(rt; ran.err.taken(), b"tx: sink fault\n".as_slice());
+        assert_eq!(rt; ran.outcome.status, 5);
+        assert_eq!(rt; ran.outcome.journal.as_slice(), [entry_at(k)].as_slice());
+        assert!(rt; matches!(&ran.outcome.cause, Some(Cause::SinkFault { rose: 1 })));
+    }
+    Ok(())
+}
+
+/// What is said of the status agrees with the cause.
+fn is_cause(cause: &Option<Cause>, status: u8) -> bool {
+    match cause {
+        None => status == 0,
+        Some(Cause::Usage) => status == 1,
+        Some(
+            Cause::Refused {
+                kind: Refusal::TooLong,
+                line,
+                column,
+                ..
+            },
+        ) => status == 2 && *line == 0 && *column == 0,
+        Some(
+            Cause::Refused {
+                kind: Refusal::Unbuilt,
+                column,
+                ..
+            },
+        ) => status == 2 && *column == 1,
+        Some(Cause::ReadFault { rose }) => status == 3 && *rose == 1,
+        Some(Cause::SinkFault { .. }) => status == 5,
+        Some(Cause::NoMemory) => status == 6,
+    }
+}
+
+/// A run that ends before the first byte of `out`, with this status and this line on `err`.
+fn refuses(rt: &HostRuntime, given: &Given, status: u8, line: &str) -> Result<(), Fail> {
+    let ran = run(rt, given)?;
+    expect(ran.err.taken() == line.as_bytes(), "the error line")?;
+    expect(ran.outcome.status == status, "the status")?;
+    expect(ran.out.taken().is_empty(), "the bytes")?;
+    expect(ran.outcome.journal.is_empty(), "the journal")?;
+    expect(is_cause(&ran.outcome.cause, status), "the cause")
+}
+
+#[test]
+fn other_words_are_refused(rt: HostRuntime) -> Result<(), Fail> {
+    let cases: [&[&str]; 7] = [
+        &["tx", "show", "a"],
+        &["tx"],
+        &["tx", "draw", "t.tree", "s.tcss"],
+        &["tx", "show", "-t.tree", "s.tcss"],
+        &[
+            "tx", "show", "t.tree", "s.tcss", "--width", "0", "--height", "2",
+        ],
+        &[
+            "tx", "show", "t.tree", "s.tcss", "--width", "1025", "--height", "2",
+        ],
+        &[
+            "tx", "show", "t.tree", "s.tcss", "--width", "6", "--height", "513",
+        ],
+    ];
+    for words in cases {
+        refuses(&rt, &Given { words, ..STATICS }, 1, "tx: usage\n")?;
+    }
+    Ok(())
+}
+
+#[test]
+fn the_first_tree_line_outside_the_form_is_named(rt: HostRuntime) -> Result<(), Fail> {
+    let cases: [(&[u8], &str); 7] = [
+        (b"Screen\n  Button\n", "tx: t.tree:2:1: Unbuilt\n"),
+        (b"Screen", "tx: t.tree:1:1: Unbuilt\n"),
+        (b"Screen\n  Static \"a\\b\"\n", "tx: t.tree:2:1: Unbuilt\n"),
+        (b"Screen\n  Static \"\xff\"\n", "tx: t.tree:2:1: Unbuilt\n"),
+        (
+            b"Screen\n  Static\n  Static\n  Static\n",
+            "tx: t.tree:4:1: Unbuilt\n",
+        ),
+        (
+            b"Screen\n  Static \"abcdefg\"\n",
+            "tx: t.tree:2:1: Unbuilt\n",
+        ),
+        (b"Button\n", "tx: t.tree:1:1: Unbuilt\n"),
+    ];
+    for (tree, line) in cases {
+        refuses(&rt, &Given { tree, ..STATICS }, 2, line)?;
+    }
+    Ok(())
+}
+
+#[test]
+fn the_first_sheet_line_outside_the_form_is_named(rt: HostRuntime) -> Result<(), Fail> {
+    let cases: [(&[u8], &str); 4] = [
+        (
+            b"Static { height: 1; }\nStatic { width: 1; }\n",
+            "tx: s.tcss:2:1: Unbuilt\n",
+        ),
+        (b"Static { height: 1000; }\n", "tx: s.tcss:1:1: Unbuilt\n"),
+        (b"Static { height: 1; }", "tx: s.tcss:1:1: Unbuilt\n"),
+        (b"", "tx: t.tree:2:1: Unbuilt\n"),
+    ];
+    for (sheet, line) in cases {
+        refuses(&rt, &Given { sheet, ..STATICS }, 2, line)?;
+    }
+    Ok(())
+}
+
+#[test]
+fn a_file_has_at_most_4_mib(rt: HostRuntime) -> Result<(), Fail> {
+    let mut long = Vec::new(rt.alloc());
+    long.resize(4_194_304, b'a')?;
+    refuses(
+        &rt,
+        &Given {
+            sheet: &long,
+            ..STATICS
+        },
+        2,
+        "tx: s.tcss:1:1: Unbuilt\n",
+    )?;
+    long.push(b'a')?;
+    refuses(
+        &rt,
+        &Given {
+            sheet: &long,
+            ..STATICS
+        },
+        2,
+        "tx: s.tcss:0:0: TooLong\n",
+    )?;
+    refuses(
+        &rt,
+        &Given {
+            tree: &long,
+            ..STATICS
+        },
+        2,
+        "tx: t.tree:0:0: TooLong\n",
+    )
+}
+
+/// Nothing is loaded behind a load that failed: the second failure isn't met.
+#[test]
+fn a_failed_load_ends_the_run(rt: HostRuntime) -> Result<(), Fail> {
+    let missing = &["tx", "show", "t.tree", "other.tcss"];
+    refuses(
+        &rt,
+        &Given {
+            failing_loads: &[0, 1],
+            ..STATICS
+        },
+        3,
+        "tx: read fault\n",
+    )?;
+    refuses(
+        &rt,
+        &Given {
+            failing_loads: &[1],
+            ..STATICS
+        },
+        3,
+        "tx: read fault\n",
+    )?;
+    refuses(
+        &rt,
+        &Given {
+            words: missing,
+            ..STATICS
+        },
+        3,
+        "tx: read fault\n",
+    )
+}
+
+/// What `err` takes of the line changes nothing else.
+#[test]
+fn the_error_line_may_be_cut_at_each_byte(rt: HostRuntime) -> Result<(), Fail> {
+    let line = "tx: t.tree:2:1: Unbuilt\n";
+    for k in 0..24u64 {
+        let given = Given {
+            tree: b"Screen\n  Button\n",
+            err_fails: &[k],
+            ..STATICS
+        };
+        let ran = run(&rt, &given)?;
+        assert_eq!(rt; ran.err.taken(), line.as_bytes().split_at(k as usize).0);
+        assert_eq!(rt; ran.outcome.status, 2);
+    }
+    Ok(())
+}
