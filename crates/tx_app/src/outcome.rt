@@ -67,6 +67,6 @@ pub enum Cause {
 pub enum Refusal {
     /// The file is longer than 4 MiB.
     TooLong,
-    /// The line has a form that can't be shown yet.
+    /// The line has a form that can't be shown yet, or its Static doesn't fit on the screen.
     Unbuilt,
 }
