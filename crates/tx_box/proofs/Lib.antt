@@ -1,0 +1,9 @@
+pub mod Amounts
+pub mod Ends
+pub mod Floors
+pub mod Numbers
+pub mod Options
+pub mod Passes
+pub mod Places
+pub mod Shares
+pub mod Totals

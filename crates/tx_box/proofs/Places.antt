@@ -1,0 +1,55 @@
+-- Places along an axis: how far they can come.
+use Rattle.std.proofs.Common.{◌≡◌, ℕ, suc, ◌+◌, ◌*◌, ◌^◌, ◌<◌, ◌≤◌, arith, ℤ, pos, negsuc, to_z, of_z, w64}
+use Rattle.std.specs.Prelude.{◌+ℤ◌, ◌*ℤ◌, ◌≤ℤ◌}
+use Rattle.std.specs.Int.{w128}
+use Rattle.std.proofs.lemmas.Int.{ints, to_z-of_z}
+use Rattle.std.proofs.Math.Nat.{le_of_mul-le-mul_right, mul-le-mul_right, mul-pos}
+use mir.Val.{SFits}
+use Rattle.tx_frac.specs.Ratio.{Ratio, IsRatio, sum_num}
+use Rattle.tx_box.specs.Sizes.{cells}
+use Rattle.tx_box.specs.Shape.{IsUpTo, IsCellCount}
+use Rattle.tx_box.proofs.Floors.{IsFloor, floor_from_zero}
+
+-- the sum of a/b, at most m, and c/d, at most n, is z/e, at most m + n
+sum_bounds : (a c z : ℤ) (b d e m n : ℕ) → 0 < b → 0 < d → pos 0 ≤ℤ a → pos 0 ≤ℤ c → a ≤ℤ pos (m * b) → c ≤ℤ pos (n * d) → z *ℤ pos (b * d) ≡ (a *ℤ pos d +ℤ c *ℤ pos b) *ℤ pos e
+    → (pos 0 ≤ℤ z) × (z ≤ℤ pos ((m + n) * e))
+sum_bounds (pos a) (pos c) (pos z) b d e m n hb hd la lc ha hc same =
+    let x : a * d ≤ m * b * d = mul-le-mul_right d (let h : a ≤ m * b = omega (arith, ints) in h) in
+    let y : c * b ≤ n * d * b = mul-le-mul_right b (let h : c ≤ n * d = omega (arith, ints) in h) in
+    let s : a * d + c * b ≤ (m + n) * (b * d) = omega arith in
+    let t : (a * d + c * b) * e ≤ (m + n) * (b * d) * e = mul-le-mul_right e s in
+    let u : z * (b * d) ≡ (a * d + c * b) * e = omega (arith, ints) in
+    let v : z * (b * d) ≤ (m + n) * e * (b * d) = omega arith in
+    let w : z ≤ (m + n) * e = le_of_mul-le-mul_right v (mul-pos hb hd) in
+    (omega (arith, ints), omega (arith, ints))
+sum_bounds (pos a) (pos c) (negsuc z) b d e m n hb hd la lc ha hc same =
+    let p : 0 < suc z * (b * d) = mul-pos (omega arith) (mul-pos hb hd) in
+    absurd (omega (arith, ints))
+sum_bounds (negsuc a) c z b d e m n hb hd la lc ha hc same = absurd (omega (arith, ints))
+sum_bounds (pos a) (negsuc c) z b d e m n hb hd la lc ha hc same = absurd (omega (arith, ints))
+
+pub sum_up_to : (x y z : Ratio) (m n : ℕ) → IsUpTo m x → IsUpTo n y → IsRatio (sum_num x y) (x.den * y.den) z → IsUpTo (m + n) z
+sum_up_to x y z m n hx hy h =
+    let b = sum_bounds x.num y.num z.num x.den y.den z.den m n hx.positive hy.positive hx.not_negative hy.not_negative hx.at_most hy.at_most h.same in
+    record { positive = h.lowest_terms.positive; not_negative = b.0; at_most = b.1 }
+
+pub up_to_count : (x : Ratio) → IsCellCount x → IsUpTo 65535 x
+up_to_count x h = record { positive = h.positive; not_negative = h.not_negative; at_most = h.at_most }
+
+pub up_to_cells : (n : ℕ) → IsUpTo n (cells n)
+up_to_cells n = record { positive = omega arith; not_negative = omega (arith, ints); at_most = omega (arith, ints) }
+
+pub up_to_more : (m n : ℕ) (x : Ratio) → m ≤ n → IsUpTo m x → IsUpTo n x
+up_to_more m n x h u =
+    let p : m * x.den ≤ n * x.den = mul-le-mul_right x.den h in
+    let q = u.at_most in
+    record { positive = u.positive; not_negative = u.not_negative; at_most = omega (arith, ints) }
+
+-- a place so far is rounded down to a number of 64 bits
+pub floor_fits : (x : Ratio) (z : ℤ) (n : ℕ) → n < 2 ^ 62 → IsUpTo n x → IsFloor x z → (to_z w128 (of_z w128 z) ≡ z) × SFits w64 z
+floor_fits x z n hn u h =
+    let b = floor_from_zero x z n u.positive u.not_negative u.at_most h in
+    let low = b.0 in
+    let high = b.1 in
+    let f : SFits w128 z = omega (arith, ints) in
+    (to_z-of_z w128 z f, omega (arith, ints))

@@ -1,0 +1,5 @@
+pub mod Item
+pub mod Laws
+pub mod Sizes
+pub mod Axis
+pub mod Shape

@@ -1,0 +1,23 @@
+//! What authors expect of an axis, as contracts of functions that do nothing. They hold of the
+//! definition that [`crate::resolve_axis`] gives the spans of.
+
+ghost use Rattle.tx_box.specs.Laws.{FillsTotal, OneUnit};
+
+/// Each item with a share in `fr` gets its share of one unit, which is the same for all of them,
+/// or its least size, its greatest size or 65,535.
+pub fn one_unit()
+    ensures { OneUnit }
+{
+    tx_frac::laws::one_form();
+    tx_frac::laws::products_over_two();
+}
+
+/// Where some item with a share in `fr` isn't settled in the last round, its share is greater than
+/// 0 and what is left isn't below 0, the last end and the last gap come to the whole area.
+pub fn fills_total()
+    ensures { FillsTotal }
+{
+    tx_frac::laws::one_form();
+    tx_frac::laws::sums_over_one();
+    tx_frac::laws::products_over_two();
+}
