@@ -1,79 +1,146 @@
 -- The steps of the reading, joined.
-use Rattle.std.proofs.Common.{◌≡◌, ℕ, false, List, Option, None, Some, Result, Ok, Err, IfSome, Vec, refl, ap, sym, ◌∙◌, arith, subst}
+use Rattle.std.proofs.Common.{◌≡◌, ℕ, ◌+◌, false, List, [], ◌∷◌, ◌++◌, Option, None, Some, Result, Ok, Err, IfSome, Vec, Bool, refl, ap, sym, ◌∙◌, arith, subst, append_assoc}
+use Rattle.std.proofs.lemmas.List.{append-nil}
 use Rattle.std.specs.declared.alloc.Global.{Global}
-use Rattle.tx_io.specs.declared.files.LoadFault.TheVariants.{NoMemory as NoRoom}
+use Rattle.tx_io.specs.declared.files.LoadFault.TheVariants.{Failed, TooLong as PastLimit, NoMemory as NoRoom}
 use Rattle.tx_io.specs.Faults.{raised}
+use Rattle.tx_io.specs.Loading.{FilesSeen, Load, load_of, files_seen, append_loads, failed_loads, after_loads}
 use Rattle.tx_io.specs.Store.{Answer, LoadGives}
 use Rattle.tx_app.specs.Words.{Show, asked}
+use Rattle.tx_app.specs.TreeForm.{texts_of}
 use Rattle.tx_app.specs.Scene.{Scene}
-use Rattle.tx_app.specs.Run.{IsOfFiles, file_limit, failed_loads, opening_of, show_opening, sheet_opening}
-use Rattle.tx_app.specs.Opening.{GivesScene, OpensSheet, OpensTexts, OpensTree, OpensWords}
+use Rattle.tx_app.specs.Run.{IsOfFiles, file_limit, sheet_loads, loads_behind, loads_of, opening_of, show_opening, sheet_opening, in_form}
+use Rattle.tx_app.specs.Opening.{GivesLoaded, GivesScene, GivesTexts, Loads, OpensSheet, OpensTexts, OpensTree, OpensWords}
 use Rattle.tx_app.specs.declared.outcome.Cause.{Cause}
 use Rattle.tx_app.specs.declared.outcome.Cause.TheVariants.{Usage}
 
--- a load that isn't made
-unmade_load : (content : Option (List ℕ)) (limit : ℕ) → LoadGives content limit (Err NoRoom)
-unmade_load None limit = tt
-unmade_load (Some content) limit = tt
+-- ---- loads, one behind another
 
-tree_of_files : (contents : Option (List ℕ → Option (List ℕ))) (show : Show) (tree : Answer) → IfSome contents (λ told. LoadGives (told show.tree) file_limit tree)
-    → IsOfFiles contents show (record { tree = tree; sheet = Err NoRoom })
-tree_of_files None show tree h = tt
-tree_of_files (Some told) show tree h = (h, unmade_load (told show.sheet) file_limit)
+failed_loads-append : (xs ys : List Load) → failed_loads (xs ++ ys) ≡ failed_loads xs + failed_loads ys
+failed_loads-append [] ys = omega arith
+failed_loads-append (load ∷ xs) ys = omega (arith, failed_loads-append xs ys)
 
-both_of_files : (contents : Option (List ℕ → Option (List ℕ))) (show : Show) (tree sheet : Answer) → IfSome contents (λ told. LoadGives (told show.tree) file_limit tree)
-    → IfSome contents (λ told. LoadGives (told show.sheet) file_limit sheet) → IsOfFiles contents show (record { tree = tree; sheet = sheet })
-both_of_files None show tree sheet h k = tt
-both_of_files (Some told) show tree sheet h k = (h, k)
+append_loads-append : (told : Option (List Load)) (xs ys : List Load) → append_loads (append_loads told xs) ys ≡ append_loads told (xs ++ ys)
+append_loads-append None xs ys = refl
+append_loads-append (Some past) xs ys = ap Some (append_assoc past xs ys)
 
-none_of_files : (contents : Option (List ℕ → Option (List ℕ))) (show : Show) → IsOfFiles contents show (record { tree = Err NoRoom; sheet = Err NoRoom })
-none_of_files None show = tt
-none_of_files (Some told) show = (unmade_load (told show.tree) file_limit, unmade_load (told show.sheet) file_limit)
+append_loads-none : (told : Option (List Load)) → told ≡ append_loads told []
+append_loads-none None = refl
+append_loads-none (Some past) = ap Some (sym (append-nil past))
 
--- the tree stops the run
-pub OpensTree-stop : (contents after_contents : Option (List ℕ → Option (List ℕ))) (before after : ℕ) (show : Show) (cause : Cause)
-    → OpensTexts contents after_contents before after show.tree (Err cause) → OpensTree contents before after show (Err cause)
-OpensTree-stop contents after_contents before after show cause t = record {
-  reading = record { tree = t.answer; sheet = Err NoRoom };
-  wanting = t.wanting;
-  of_files = tree_of_files contents show t.answer t.of_files;
-  faults = t.gives.0;
-  gives = t.gives.1;
-}
-
--- the sheet is read behind the tree
-pub OpensTree-sheet : (contents mid_contents : Option (List ℕ → Option (List ℕ))) (before mid after : ℕ) (show : Show) (texts : Vec (List ℕ) Global) (result : Result Scene Cause)
-    → OpensTexts contents mid_contents before mid show.tree (Ok texts) → OpensSheet mid_contents mid after show texts.items result → OpensTree contents before after show result
-OpensTree-sheet contents mid_contents before mid after show texts result t s =
-    let whole : show_opening show (record { tree = t.answer; sheet = s.sheet }) ≡ sheet_opening show texts.items s.sheet = t.gives.1 (λ texts. sheet_opening show texts s.sheet) in
-    record {
-      reading = record { tree = t.answer; sheet = s.sheet };
-      wanting = s.wanting;
-      of_files = both_of_files contents show t.answer s.sheet t.of_files (subst (λ c. IfSome c (λ told. LoadGives (told show.sheet) file_limit s.sheet)) t.kept s.of_files);
-      faults = s.faults ∙ ap (λ n. raised n (failed_loads (sheet_opening show texts.items s.sheet))) t.gives.0 ∙ ap (λ o. raised before (failed_loads o)) (sym whole);
-      gives = subst (λ o. GivesScene s.wanting o result) (sym whole) s.gives;
-    }
+raised-raised : (n j k : ℕ) → raised (raised n j) k ≡ raised n (j + k)
+raised-raised n j k = omega arith
 
 raised-none : (n : ℕ) → n ≡ raised n 0
 raised-none n = omega arith
 
+after_loads-append : (before : FilesSeen) (xs ys : List Load) → after_loads (after_loads before xs) ys ≡ after_loads before (xs ++ ys)
+after_loads-append before xs ys =
+    ap (λ told. files_seen before.contents told (raised (raised before.faults (failed_loads xs)) (failed_loads ys))) (append_loads-append before.loads xs ys)
+    ∙ ap (files_seen before.contents (append_loads before.loads (xs ++ ys)))
+    (raised-raised before.faults (failed_loads xs) (failed_loads ys) ∙ ap (raised before.faults) (sym (failed_loads-append xs ys)))
+
+pub after_loads-none : (before : FilesSeen) → before ≡ after_loads before []
+after_loads-none before =
+    ap (λ told. files_seen before.contents told before.faults) (append_loads-none before.loads)
+    ∙ ap (files_seen before.contents (append_loads before.loads [])) (raised-none before.faults)
+
+-- ---- the tree and the sheet
+
+tree_of_files : (contents : Option (List ℕ → Option (List ℕ))) (show : Show) (tree : Answer) → IfSome contents (λ told. LoadGives (told show.tree) file_limit tree)
+    → IsOfFiles contents show (record { tree = tree; sheet = None })
+tree_of_files None show tree h = tt
+tree_of_files (Some told) show tree h = (h, tt)
+
+both_of_files : (contents : Option (List ℕ → Option (List ℕ))) (show : Show) (tree sheet : Answer) → IfSome contents (λ told. LoadGives (told show.tree) file_limit tree)
+    → IfSome contents (λ told. LoadGives (told show.sheet) file_limit sheet) → IsOfFiles contents show (record { tree = tree; sheet = Some sheet })
+both_of_files None show tree sheet h k = tt
+both_of_files (Some told) show tree sheet h k = (h, k)
+
+-- without a load of the sheet there is none behind the tree
+none_behind : (show : Show) (tree : Answer) → loads_behind show tree None ≡ []
+none_behind show (Err fault) = refl
+none_behind show (Ok bytes) = of (texts_of bytes)
+  where
+    of : (texts : Result (List (List ℕ)) ℕ) → sheet_loads show.sheet None texts ≡ []
+    of (Ok texts) = refl
+    of (Err line) = refl
+
+-- the tree stops the run
+pub OpensTree-stop : (before after : FilesSeen) (show : Show) (cause : Cause)
+    → OpensTexts before after show.tree (Err cause) → OpensTree before after show (Err cause)
+OpensTree-stop before after show cause t = record {
+  reading = record { tree = t.answer; sheet = None };
+  wanting = t.wanting;
+  of_files = tree_of_files before.contents show t.answer t.of_files;
+  loads = t.loads ∙ ap (λ rest. after_loads before (load_of show.tree file_limit t.answer ∷ rest)) (sym (none_behind show t.answer));
+  gives = gives t.answer t.gives;
+}
+  where
+    gives : (answer : Answer) → GivesTexts show.tree answer t.wanting (Err cause) → GivesScene t.wanting (show_opening show (record { tree = answer; sheet = None })) (Err cause)
+    gives (Ok bytes) g = g
+    gives (Err fault) g = g
+
+-- the sheet isn't loaded
+pub OpensSheet-unloaded : (before after : FilesSeen) (show : Show) (texts : List (List ℕ)) (cause : Cause)
+    → Loads before after show.sheet (Err cause) → OpensSheet before after show texts (Err cause)
+OpensSheet-unloaded before after show texts cause load =
+    let stop : (wanting : Bool) × GivesScene wanting (sheet_opening show texts (Some load.answer)) (Err cause) = stop_of load.answer load.gives in
+    record { sheet = load.answer; wanting = stop.0; of_files = load.of_files; loads = load.loads; gives = stop.1 }
+  where
+    stop_of : (answer : Answer) → GivesLoaded show.sheet answer (Err cause) → (wanting : Bool) × GivesScene wanting (sheet_opening show texts (Some answer)) (Err cause)
+    stop_of (Ok bytes) gives = absurd gives
+    stop_of (Err Failed) gives = (gives.wanting, (gives.cause, gives.may))
+    stop_of (Err PastLimit) gives = (gives.wanting, (gives.cause, gives.may))
+    stop_of (Err NoRoom) gives = (gives.wanting, (gives.cause, gives.may))
+
+-- the opening behind a tree in the form
+whole_opening : (show : Show) (tree : Answer) (sheet : Option Answer) (wanting : Bool) (texts : Vec (List ℕ) Global) → GivesTexts show.tree tree wanting (Ok texts)
+    → show_opening show (record { tree = tree; sheet = sheet }) ≡ sheet_opening show texts.items sheet
+whole_opening show (Ok bytes) sheet wanting texts gives = ap (λ found. in_form show.tree found (λ texts. sheet_opening show texts sheet)) gives
+whole_opening show (Err fault) sheet wanting texts gives = absurd gives
+
+whole_loads : (show : Show) (tree sheet : Answer) (wanting : Bool) (texts : Vec (List ℕ) Global) → GivesTexts show.tree tree wanting (Ok texts)
+    → loads_behind show tree (Some sheet) ≡ load_of show.sheet file_limit sheet ∷ []
+whole_loads show (Ok bytes) sheet wanting texts gives = ap (sheet_loads show.sheet (Some sheet)) gives
+whole_loads show (Err fault) sheet wanting texts gives = absurd gives
+
+-- the sheet is read behind the tree
+pub OpensTree-sheet : (before mid after : FilesSeen) (show : Show) (texts : Vec (List ℕ) Global) (result : Result Scene Cause)
+    → OpensTexts before mid show.tree (Ok texts) → OpensSheet mid after show texts.items result → OpensTree before after show result
+OpensTree-sheet before mid after show texts result t s =
+    let tree_load : Load = load_of show.tree file_limit t.answer in
+    let sheet_load : Load = load_of show.sheet file_limit s.sheet in
+    record {
+      reading = record { tree = t.answer; sheet = Some s.sheet };
+      wanting = s.wanting;
+      of_files = both_of_files before.contents show t.answer s.sheet t.of_files
+          (subst (λ (seen : FilesSeen). IfSome seen.contents (λ told. LoadGives (told show.sheet) file_limit s.sheet)) t.loads s.of_files);
+      loads = s.loads ∙ ap (λ seen. after_loads seen (sheet_load ∷ [])) t.loads
+          ∙ after_loads-append before (tree_load ∷ []) (sheet_load ∷ [])
+          ∙ ap (λ rest. after_loads before (tree_load ∷ rest)) (sym (whole_loads show t.answer s.sheet t.wanting texts t.gives));
+      gives = subst (λ o. GivesScene s.wanting o result) (sym (whole_opening show t.answer (Some s.sheet) t.wanting texts t.gives)) s.gives;
+    }
+
+-- ---- the words
+
 -- the words are refused
-pub OpensWords-usage : (contents : Option (List ℕ → Option (List ℕ))) (before : ℕ) (words : List (List ℕ)) → asked words ≡ None → OpensWords contents before before words (Err Usage)
-OpensWords-usage contents before words refused = record {
-  reading = record { tree = Err NoRoom; sheet = Err NoRoom };
+pub OpensWords-usage : (before : FilesSeen) (words : List (List ℕ)) → asked words ≡ None → OpensWords before before words (Err Usage)
+OpensWords-usage before words refused = record {
+  reading = record { tree = Err NoRoom; sheet = None };
   wanting = false;
-  of_files = subst (λ o. IfSome o (λ show. IsOfFiles contents show (record { tree = Err NoRoom; sheet = Err NoRoom }))) (sym refused) tt;
-  faults = subst (λ o. before ≡ raised before (failed_loads (opening_of o (record { tree = Err NoRoom; sheet = Err NoRoom })))) (sym refused) (raised-none before);
-  gives = subst (λ o. GivesScene false (opening_of o (record { tree = Err NoRoom; sheet = Err NoRoom })) (Err Usage)) (sym refused) refl;
+  of_files = subst (λ o. IfSome o (λ show. IsOfFiles before.contents show (record { tree = Err NoRoom; sheet = None }))) (sym refused) tt;
+  loads = subst (λ o. before ≡ after_loads before (loads_of o (record { tree = Err NoRoom; sheet = None }))) (sym refused) (after_loads-none before);
+  gives = subst (λ o. GivesScene false (opening_of o (record { tree = Err NoRoom; sheet = None })) (Err Usage)) (sym refused) (refl, tt);
 }
 
 -- the words ask for a scene
-pub OpensWords-tree : (contents : Option (List ℕ → Option (List ℕ))) (before after : ℕ) (words : List (List ℕ)) (show : Show) (result : Result Scene Cause)
-    → asked words ≡ Some show → OpensTree contents before after show result → OpensWords contents before after words result
-OpensWords-tree contents before after words show result asks t = record {
+pub OpensWords-tree : (before after : FilesSeen) (words : List (List ℕ)) (show : Show) (result : Result Scene Cause)
+    → asked words ≡ Some show → OpensTree before after show result → OpensWords before after words result
+OpensWords-tree before after words show result asks t = record {
   reading = t.reading;
   wanting = t.wanting;
-  of_files = subst (λ o. IfSome o (λ show. IsOfFiles contents show t.reading)) (sym asks) t.of_files;
-  faults = subst (λ o. after ≡ raised before (failed_loads (opening_of o t.reading))) (sym asks) t.faults;
+  of_files = subst (λ o. IfSome o (λ show. IsOfFiles before.contents show t.reading)) (sym asks) t.of_files;
+  loads = subst (λ o. after ≡ after_loads before (loads_of o t.reading)) (sym asks) t.loads;
   gives = subst (λ o. GivesScene t.wanting (opening_of o t.reading) result) (sym asks) t.gives;
 }

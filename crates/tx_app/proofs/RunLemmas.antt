@@ -1,17 +1,18 @@
 -- The run, from its parts, and what its causes say.
-use Rattle.std.proofs.Common.{◌≡◌, ◌≤◌, ◌+◌, ℕ, zero, suc, Bool, true, false, cond, List, [], ◌∷◌, ◌++◌, length, map, Option, None, Some, refl, ap, sym, ◌∙◌, arith, subst, IfSome, Result, Ok, Err}
+use Rattle.std.proofs.Common.{◌≡◌, ◌≤◌, ◌+◌, ℕ, zero, suc, Bool, true, false, cond, List, [], ◌∷◌, ◌++◌, length, map, Option, None, Some, refl, ap, sym, ◌∙◌, arith, subst, zero-add, IfSome, Result, Ok, Err}
 use Rattle.std.proofs.Math.Dec.{eqb-suc-zero}
 use Rattle.std.specs.Io.KnownBytes.{append_known}
 use Rattle.tx_io.specs.declared.files.LoadFault.TheVariants.{Failed, TooLong as PastLimit, NoMemory as NoRoom}
 use Rattle.tx_io.specs.declared.send.Sent.{Sent}
 use Rattle.tx_io.specs.Faults.{raised, Rose}
+use Rattle.tx_io.specs.Loading.{FilesSeen, failed_loads, after_loads}
 use Rattle.tx_io.specs.Sending.{SinkSeen, failed_puts}
 use Rattle.tx_io.specs.Store.{Answer, LoadGives}
 use Rattle.tx_app.specs.Words.{Show, asked}
 use Rattle.tx_app.specs.TreeForm.{texts_of}
 use Rattle.tx_app.specs.SheetForm.{looks_of}
 use Rattle.tx_app.specs.Scene.{Scene, first_misfit}
-use Rattle.tx_app.specs.Run.{Reading, Opening, Stops, Opens, Refreshing, Unmade, Made, Course, IsCourse, IsShown, IsOfFiles, opening_of, show_opening, sheet_opening, failed_loads, bytes_of, faults_of, entry_of, cause_of, end_cause, sink_cause, unsent, file_limit, loaded, in_form, fitted}
+use Rattle.tx_app.specs.Run.{Reading, Opening, Stops, Opens, Refreshing, Unmade, Made, Course, IsCourse, IsShown, IsOfFiles, opening_of, show_opening, sheet_opening, sheet_loads, loads_of, bytes_of, faults_of, entry_of, cause_of, end_cause, sink_cause, unsent, file_limit, loaded, in_form, fitted}
 use Rattle.tx_app.specs.Opening.{GivesScene, OpensWords}
 use Rattle.tx_app.specs.Showing.{Runs, Shows}
 use Rattle.tx_app.specs.Faults.{CausedBy, HoldsScene, IsComplete, IsNoneOrMemory, read_faults, sink_faults}
@@ -24,14 +25,14 @@ use Rattle.tx_app.proofs.ShowingLemmas.{append_known-nothing, raised-none}
 -- ---- the reading and the show, joined
 
 -- the reading stopped the run
-pub Runs-stop : (words : List (List ℕ)) (contents : Option (List ℕ → Option (List ℕ))) (files_before files_after : ℕ) (seen : SinkSeen) (cause : Cause)
-    → OpensWords contents files_before files_after words (Err cause) → Runs words contents files_before files_after seen seen [] (Some cause)
-Runs-stop words contents files_before files_after seen cause o = record {
+pub Runs-stop : (words : List (List ℕ)) (files_before files_after : FilesSeen) (seen : SinkSeen) (cause : Cause)
+    → OpensWords files_before files_after words (Err cause) → Runs words files_before files_after seen seen [] (Some cause)
+Runs-stop words files_before files_after seen cause o = record {
   reading = o.reading;
   course = record { wanting = o.wanting; refreshes = []; closed = unsent };
   of_files = o.of_files;
   possible = possible (opening_of (asked words) o.reading) o.wanting o.gives;
-  loads = o.faults;
+  loads = o.loads;
   told = append_known-nothing seen.told ∙ ap (append_known seen.told) (nothing (opening_of (asked words) o.reading) o.wanting);
   faults = raised-none seen.faults;
   journal_is = refl;
@@ -39,7 +40,7 @@ Runs-stop words contents files_before files_after seen cause o = record {
 }
   where
     possible : (opening : Opening) (wanting : Bool) → GivesScene wanting opening (Err cause) → IsCourse opening (record { wanting = wanting; refreshes = []; closed = unsent })
-    possible (Stops expected) wanting gives = (refl, refl)
+    possible (Stops expected) wanting gives = (refl, refl, gives.1)
     possible (Opens scene) true gives = (refl, refl)
     possible (Opens scene) false gives = absurd gives
 
@@ -48,21 +49,21 @@ Runs-stop words contents files_before files_after seen cause o = record {
     nothing (Opens scene) wanting = refl
 
     cause_is : (opening : Opening) (wanting : Bool) → GivesScene wanting opening (Err cause) → Some cause ≡ cause_of opening (record { wanting = wanting; refreshes = []; closed = unsent })
-    cause_is (Stops expected) wanting gives = ap Some gives
+    cause_is (Stops expected) wanting gives = ap Some gives.0
     cause_is (Opens scene) true gives = ap Some gives
     cause_is (Opens scene) false gives = absurd gives
 
 -- the scene was shown
-pub Runs-show : (words : List (List ℕ)) (contents : Option (List ℕ → Option (List ℕ))) (files_before files_after : ℕ) (before after : SinkSeen) (scene : Scene) (fresh journal : List Entry) (cause : Option Cause)
-    → OpensWords contents files_before files_after words (Ok scene) → fresh ≡ [] → Shows before after scene fresh journal cause → Runs words contents files_before files_after before after journal cause
-Runs-show words contents files_before files_after before after scene fresh journal cause o none s =
+pub Runs-show : (words : List (List ℕ)) (files_before files_after : FilesSeen) (before after : SinkSeen) (scene : Scene) (fresh journal : List Entry) (cause : Option Cause)
+    → OpensWords files_before files_after words (Ok scene) → fresh ≡ [] → Shows before after scene fresh journal cause → Runs words files_before files_after before after journal cause
+Runs-show words files_before files_after before after scene fresh journal cause o none s =
     let opens : opening_of (asked words) o.reading ≡ Opens scene = is_scene (opening_of (asked words) o.reading) o.wanting o.gives in
     record {
       reading = o.reading;
       course = s.course;
       of_files = o.of_files;
       possible = subst (λ p. IsCourse p s.course) (sym opens) s.possible;
-      loads = o.faults;
+      loads = o.loads;
       told = s.told ∙ ap (λ p. append_known before.told (bytes_of p s.course)) (sym opens);
       faults = s.faults;
       journal_is = s.journal ∙ ap (λ entries. entries ++ map entry_of s.course.refreshes) none;
@@ -75,6 +76,49 @@ Runs-show words contents files_before files_after before after scene fresh journ
     is_scene (Opens found) true gives = absurd gives
 
 -- ---- what the causes say
+
+-- how many loads failed, by what the reading comes to
+abbrev read_failures : Opening → ℕ
+read_failures (Stops (ReadFault rose)) = rose
+read_failures _ = 0
+
+looks-failures : (show : Show) (texts : List (List ℕ)) (found : Result Looks ℕ)
+    → read_failures (in_form show.sheet found (λ looks. fitted show texts looks (first_misfit show.size looks.statics.height 1 texts))) ≡ 0
+looks-failures show texts (Err line) = refl
+looks-failures show texts (Ok looks) = of (first_misfit show.size looks.statics.height 1 texts)
+  where
+    of : (misfit : Option ℕ) → read_failures (fitted show texts looks misfit) ≡ 0
+    of None = refl
+    of (Some i) = refl
+
+texts-failures : (show : Show) (sheet : Option Answer) (found : Result (List (List ℕ)) ℕ)
+    → failed_loads (sheet_loads show.sheet sheet found) ≡ read_failures (in_form show.tree found (λ texts. sheet_opening show texts sheet))
+texts-failures show sheet (Err line) = no_load sheet
+  where
+    no_load : (sheet : Option Answer) → failed_loads (sheet_loads show.sheet sheet (Err line)) ≡ 0
+    no_load None = refl
+    no_load (Some answer) = refl
+texts-failures show None (Ok texts) = refl
+texts-failures show (Some (Ok bytes)) (Ok texts) = sym (looks-failures show texts (looks_of bytes))
+texts-failures show (Some (Err Failed)) (Ok texts) = refl
+texts-failures show (Some (Err PastLimit)) (Ok texts) = refl
+texts-failures show (Some (Err NoRoom)) (Ok texts) = refl
+
+tree-failures : (show : Show) (tree : Answer) (sheet : Option Answer)
+    → failed_loads (loads_of (Some show) (record { tree = tree; sheet = sheet })) ≡ read_failures (show_opening show (record { tree = tree; sheet = sheet }))
+tree-failures show (Ok bytes) sheet = zero-add (failed_loads (sheet_loads show.sheet sheet (texts_of bytes))) ∙ texts-failures show sheet (texts_of bytes)
+tree-failures show (Err Failed) sheet = refl
+tree-failures show (Err PastLimit) sheet = refl
+tree-failures show (Err NoRoom) sheet = refl
+
+loads-failures : (wanted : Option Show) (reading : Reading) → failed_loads (loads_of wanted reading) ≡ read_failures (opening_of wanted reading)
+loads-failures None reading = refl
+loads-failures (Some show) reading = tree-failures show reading.tree reading.sheet
+
+-- the count of the files rose by these
+faults-of_loads : (wanted : Option Show) (reading : Reading) (before after : FilesSeen) → after ≡ after_loads before (loads_of wanted reading)
+    → after.faults ≡ raised before.faults (read_failures (opening_of wanted reading))
+faults-of_loads wanted reading before after is = ap (λ (seen : FilesSeen). seen.faults) is ∙ ap (raised before.faults) (loads-failures wanted reading)
 
 -- the reading stops for a failure only where one load failed
 abbrev OfReading : Opening → Type 0
@@ -102,11 +146,15 @@ opening-of_reading (Some show) reading =
     of_fitted texts looks (Some i) = tt
     of_fitted texts looks None = tt
 
-    of_sheet : (texts : List (List ℕ)) → OfReading (sheet_opening show texts reading.sheet)
-    of_sheet texts = loaded-of_reading show.sheet reading.sheet
+    of_answer : (texts : List (List ℕ)) (sheet : Option Answer) → OfReading (sheet_opening show texts sheet)
+    of_answer texts None = tt
+    of_answer texts (Some answer) = loaded-of_reading show.sheet answer
         (λ bytes. in_form show.sheet (looks_of bytes) (λ looks. fitted show texts looks (first_misfit show.size looks.statics.height 1 texts)))
         (λ bytes. in_form-of_reading show.sheet (looks_of bytes) (λ looks. fitted show texts looks (first_misfit show.size looks.statics.height 1 texts))
         (λ looks. of_fitted texts looks (first_misfit show.size looks.statics.height 1 texts)))
+
+    of_sheet : (texts : List (List ℕ)) → OfReading (sheet_opening show texts reading.sheet)
+    of_sheet texts = of_answer texts reading.sheet
 
 rises : (n before after : ℕ) → after ≡ raised before (suc n) → Rose before after
 rises n before after is = omega (arith, is)
@@ -123,7 +171,7 @@ sink_cause-no_read : (n before after : ℕ) → CausedBy (read_faults (sink_caus
 sink_cause-no_read zero before after = tt
 sink_cause-no_read (suc n) before after = rw (sink_cause-some n) tt
 
-stopped-read : (cause : Cause) (wanting : Bool) (before after : ℕ) → OfReading (Stops cause) → after ≡ raised before (failed_loads (Stops cause))
+stopped-read : (cause : Cause) (wanting : Bool) (before after : ℕ) → OfReading (Stops cause) → after ≡ raised before (read_failures (Stops cause))
     → CausedBy (read_faults (Some (cond wanting NoMemory cause))) before after
 stopped-read cause true before after of is = tt
 stopped-read (ReadFault rose) false before after of is = (omega (arith, of), is, omega (arith, of, is))
@@ -140,7 +188,7 @@ shown-read scene false (Unmade ∷ []) closed before after possible = tt
 shown-read scene false (Made sent ∷ []) closed before after possible = sink_cause-no_read (failed_puts sent + failed_puts closed) before after
 shown-read scene false (refreshing ∷ next ∷ rest) closed before after possible = absurd possible
 
-read_fault-of : (opening : Opening) (course : Course) (before after : ℕ) → OfReading opening → IsCourse opening course → after ≡ raised before (failed_loads opening)
+read_fault-of : (opening : Opening) (course : Course) (before after : ℕ) → OfReading opening → IsCourse opening course → after ≡ raised before (read_failures opening)
     → CausedBy (read_faults (cause_of opening course)) before after
 read_fault-of (Stops cause) course before after of possible is = stopped-read cause course.wanting before after of is
 read_fault-of (Opens scene) course before after of possible is = shown-read scene course.wanting course.refreshes course.closed before after possible
@@ -167,14 +215,15 @@ sink_fault-of : (opening : Opening) (course : Course) (before after : ℕ) → O
 sink_fault-of (Stops cause) course before after of possible is = stopped-sink cause course.wanting before after of
 sink_fault-of (Opens scene) course before after of possible is = shown-sink scene course.wanting course.refreshes course.closed before after possible is
 
-pub Runs-read_fault : (words : List (List ℕ)) (contents : Option (List ℕ → Option (List ℕ))) (files_before files_after : ℕ) (before after : SinkSeen) (journal : List Entry) (cause : Option Cause)
-    → Runs words contents files_before files_after before after journal cause → CausedBy (read_faults cause) files_before files_after
-Runs-read_fault words contents files_before files_after before after journal cause r =
-    rw r.cause_is (read_fault-of (opening_of (asked words) r.reading) r.course files_before files_after (opening-of_reading (asked words) r.reading) r.possible r.loads)
+pub Runs-read_fault : (words : List (List ℕ)) (files_before files_after : FilesSeen) (before after : SinkSeen) (journal : List Entry) (cause : Option Cause)
+    → Runs words files_before files_after before after journal cause → CausedBy (read_faults cause) files_before.faults files_after.faults
+Runs-read_fault words files_before files_after before after journal cause r =
+    rw r.cause_is (read_fault-of (opening_of (asked words) r.reading) r.course files_before.faults files_after.faults (opening-of_reading (asked words) r.reading) r.possible
+    (faults-of_loads (asked words) r.reading files_before files_after r.loads))
 
-pub Runs-sink_fault : (words : List (List ℕ)) (contents : Option (List ℕ → Option (List ℕ))) (files_before files_after : ℕ) (before after : SinkSeen) (journal : List Entry) (cause : Option Cause)
-    → Runs words contents files_before files_after before after journal cause → CausedBy (sink_faults cause) before.faults after.faults
-Runs-sink_fault words contents files_before files_after before after journal cause r =
+pub Runs-sink_fault : (words : List (List ℕ)) (files_before files_after : FilesSeen) (before after : SinkSeen) (journal : List Entry) (cause : Option Cause)
+    → Runs words files_before files_after before after journal cause → CausedBy (sink_faults cause) before.faults after.faults
+Runs-sink_fault words files_before files_after before after journal cause r =
     rw r.cause_is (sink_fault-of (opening_of (asked words) r.reading) r.course before.faults after.faults (opening-of_reading (asked words) r.reading) r.possible r.faults)
 
 -- ---- files that hold a scene
@@ -190,14 +239,14 @@ scene-fine : (scene : Scene) (opening : Opening) → opening ≡ Opens scene →
 scene-fine scene opening is = subst Fine (sym is) tt
 
 sheet-fine : (show : Show) (texts : List (List ℕ)) (scene : Scene) (sheet : List ℕ) (answer : Answer) → LoadGives (Some sheet) file_limit answer → length sheet ≤ file_limit
-    → sheet_opening show texts (Ok sheet) ≡ Opens scene → Fine (sheet_opening show texts answer)
-sheet-fine show texts scene sheet (Ok bytes) gives short opens = scene-fine scene (sheet_opening show texts (Ok bytes)) (ap (λ b. sheet_opening show texts (Ok b)) gives.0 ∙ opens)
+    → sheet_opening show texts (Some (Ok sheet)) ≡ Opens scene → Fine (sheet_opening show texts (Some answer))
+sheet-fine show texts scene sheet (Ok bytes) gives short opens = scene-fine scene (sheet_opening show texts (Some (Ok bytes))) (ap (λ b. sheet_opening show texts (Some (Ok b))) gives.0 ∙ opens)
 sheet-fine show texts scene sheet (Err Failed) gives short opens = refl
 sheet-fine show texts scene sheet (Err PastLimit) gives short opens = absurd (omega (arith, gives, short))
 sheet-fine show texts scene sheet (Err NoRoom) gives short opens = tt
 
 texts-fine : (show : Show) (scene : Scene) (found : Result (List (List ℕ)) ℕ) (sheet : List ℕ) (answer : Answer) → LoadGives (Some sheet) file_limit answer → length sheet ≤ file_limit
-    → in_form show.tree found (λ texts. sheet_opening show texts (Ok sheet)) ≡ Opens scene → Fine (in_form show.tree found (λ texts. sheet_opening show texts answer))
+    → in_form show.tree found (λ texts. sheet_opening show texts (Some (Ok sheet))) ≡ Opens scene → Fine (in_form show.tree found (λ texts. sheet_opening show texts (Some answer)))
 texts-fine show scene (Ok texts) sheet answer gives short opens = sheet-fine show texts scene sheet answer gives short opens
 texts-fine show scene (Err line) sheet answer gives short opens = absurd (subst Stopped opens tt)
   where
@@ -207,9 +256,9 @@ texts-fine show scene (Err line) sheet answer gives short opens = absurd (subst 
 
 tree-fine : (show : Show) (scene : Scene) (tree sheet : List ℕ) (of_tree of_sheet : Answer)
     → LoadGives (Some tree) file_limit of_tree → length tree ≤ file_limit → LoadGives (Some sheet) file_limit of_sheet → length sheet ≤ file_limit
-    → show_opening show (record { tree = Ok tree; sheet = Ok sheet }) ≡ Opens scene → Fine (show_opening show (record { tree = of_tree; sheet = of_sheet }))
+    → show_opening show (record { tree = Ok tree; sheet = Some (Ok sheet) }) ≡ Opens scene → Fine (show_opening show (record { tree = of_tree; sheet = Some of_sheet }))
 tree-fine show scene tree sheet (Ok bytes) of_sheet gives short sheet_gives sheet_short opens =
-    texts-fine show scene (texts_of bytes) sheet of_sheet sheet_gives sheet_short (ap (λ b. in_form show.tree (texts_of b) (λ texts. sheet_opening show texts (Ok sheet))) gives.0 ∙ opens)
+    texts-fine show scene (texts_of bytes) sheet of_sheet sheet_gives sheet_short (ap (λ b. in_form show.tree (texts_of b) (λ texts. sheet_opening show texts (Some (Ok sheet)))) gives.0 ∙ opens)
 tree-fine show scene tree sheet (Err Failed) of_sheet gives short sheet_gives sheet_short opens = refl
 tree-fine show scene tree sheet (Err PastLimit) of_sheet gives short sheet_gives sheet_short opens = absurd (omega (arith, gives, short))
 tree-fine show scene tree sheet (Err NoRoom) of_sheet gives short sheet_gives sheet_short opens = tt
@@ -218,7 +267,7 @@ sink_cause-free : (n before after : ℕ) → after ≡ raised before n → (Rose
 sink_cause-free zero before after is none = tt
 sink_cause-free (suc n) before after is none = absurd (none (rises n before after is))
 
-stopped-free : (cause : Cause) (wanting : Bool) (before after : ℕ) → Fine (Stops cause) → after ≡ raised before (failed_loads (Stops cause)) → (Rose before after → ⊥)
+stopped-free : (cause : Cause) (wanting : Bool) (before after : ℕ) → Fine (Stops cause) → after ≡ raised before (read_failures (Stops cause)) → (Rose before after → ⊥)
     → IsNoneOrMemory (Some (cond wanting NoMemory cause))
 stopped-free cause true before after fine is none = tt
 stopped-free (ReadFault rose) false before after fine is none = absurd (none (omega (arith, fine, is)))
@@ -237,25 +286,57 @@ shown-free scene false (Made sent ∷ []) closed before after possible is none =
 shown-free scene false (refreshing ∷ next ∷ rest) closed before after possible is none = absurd possible
 
 free-of : (opening : Opening) (course : Course) (files_before files_after before after : ℕ) → Fine opening → IsCourse opening course
-    → files_after ≡ raised files_before (failed_loads opening) → after ≡ raised before (faults_of course.refreshes course.closed)
+    → files_after ≡ raised files_before (read_failures opening) → after ≡ raised before (faults_of course.refreshes course.closed)
     → (Rose files_before files_after → ⊥) → (Rose before after → ⊥) → IsNoneOrMemory (cause_of opening course)
 free-of (Stops cause) course files_before files_after before after fine possible loads faults no_read no_sink = stopped-free cause course.wanting files_before files_after fine loads no_read
 free-of (Opens scene) course files_before files_after before after fine possible loads faults no_read no_sink =
     shown-free scene course.wanting course.refreshes course.closed before after possible faults no_sink
+
+-- no sheet is loaded where memory is wanting before
+unloaded-fine : (show : Show) (scene : Scene) (tree sheet : List ℕ) (of_tree : Answer) → LoadGives (Some tree) file_limit of_tree → length tree ≤ file_limit
+    → show_opening show (record { tree = Ok tree; sheet = Some (Ok sheet) }) ≡ Opens scene → Fine (show_opening show (record { tree = of_tree; sheet = None }))
+unloaded-fine show scene tree sheet (Ok bytes) gives short opens = of (texts_of bytes) (ap (λ b. in_form show.tree (texts_of b) (λ texts. sheet_opening show texts (Some (Ok sheet)))) gives.0 ∙ opens)
+  where
+    Stopped : Opening → Type 0
+    Stopped (Stops cause) = Unit {0}
+    Stopped (Opens found) = ⊥
+
+    of : (found : Result (List (List ℕ)) ℕ) → in_form show.tree found (λ texts. sheet_opening show texts (Some (Ok sheet))) ≡ Opens scene
+        → Fine (in_form show.tree found (λ texts. sheet_opening show texts None))
+    of (Ok texts) h = tt
+    of (Err line) h = absurd (subst Stopped h tt)
+unloaded-fine show scene tree sheet (Err Failed) gives short opens = refl
+unloaded-fine show scene tree sheet (Err PastLimit) gives short opens = absurd (omega (arith, gives, short))
+unloaded-fine show scene tree sheet (Err NoRoom) gives short opens = tt
+
+show-fine : (show : Show) (scene : Scene) (tree sheet : List ℕ) (of_tree : Answer) (of_sheet : Option Answer)
+    → LoadGives (Some tree) file_limit of_tree → length tree ≤ file_limit → IfSome of_sheet (λ answer. LoadGives (Some sheet) file_limit answer) → length sheet ≤ file_limit
+    → show_opening show (record { tree = Ok tree; sheet = Some (Ok sheet) }) ≡ Opens scene → Fine (show_opening show (record { tree = of_tree; sheet = of_sheet }))
+show-fine show scene tree sheet of_tree None gives short sheet_gives sheet_short opens = unloaded-fine show scene tree sheet of_tree gives short opens
+show-fine show scene tree sheet of_tree (Some answer) gives short sheet_gives sheet_short opens = tree-fine show scene tree sheet of_tree answer gives short sheet_gives sheet_short opens
 
 holds-fine : (words : List (List ℕ)) (told : List ℕ → Option (List ℕ)) (reading : Reading) (h : HoldsScene words told)
     → IfSome (asked words) (λ show. IsOfFiles (Some told) show reading) → Fine (opening_of (asked words) reading)
 holds-fine words told reading h of_files =
     let of_show : IsOfFiles (Some told) h.show reading = subst (λ wanted. IfSome wanted (λ show. IsOfFiles (Some told) show reading)) h.asks of_files in
     let tree_gives : LoadGives (Some h.tree) file_limit reading.tree = subst (λ content. LoadGives content file_limit reading.tree) h.tree_told of_show.0 in
-    let sheet_gives : LoadGives (Some h.sheet) file_limit reading.sheet = subst (λ content. LoadGives content file_limit reading.sheet) h.sheet_told of_show.1 in
+    let sheet_gives : IfSome reading.sheet (λ answer. LoadGives (Some h.sheet) file_limit answer) =
+    subst (λ content. IfSome reading.sheet (λ answer. LoadGives content file_limit answer)) h.sheet_told of_show.1 in
     subst (λ wanted. Fine (opening_of wanted reading)) (sym h.asks)
-    (tree-fine h.show h.scene h.tree h.sheet reading.tree reading.sheet tree_gives h.tree_short sheet_gives h.sheet_short h.opens)
+    (show-fine h.show h.scene h.tree h.sheet reading.tree reading.sheet tree_gives h.tree_short sheet_gives h.sheet_short h.opens)
 
-pub Runs-complete : (words : List (List ℕ)) (contents : Option (List ℕ → Option (List ℕ))) (files_before files_after : ℕ) (before after : SinkSeen) (journal : List Entry) (cause : Option Cause)
-    → Runs words contents files_before files_after before after journal cause
-    → IfSome contents (λ told. IsComplete words told files_before files_after before.faults after.faults cause)
-Runs-complete words None files_before files_after before after journal cause r = tt
-Runs-complete words (Some told) files_before files_after before after journal cause r = λ h no_read no_sink.
-    rw r.cause_is (free-of (opening_of (asked words) r.reading) r.course files_before files_after before.faults after.faults (holds-fine words told r.reading h r.of_files)
-    r.possible r.loads r.faults no_read no_sink)
+complete-of : (words : List (List ℕ)) (contents : Option (List ℕ → Option (List ℕ))) (reading : Reading) (course : Course) (files_before files_after before after : ℕ) (cause : Option Cause)
+    → IfSome (asked words) (λ show. IsOfFiles contents show reading) → IsCourse (opening_of (asked words) reading) course
+    → files_after ≡ raised files_before (read_failures (opening_of (asked words) reading)) → after ≡ raised before (faults_of course.refreshes course.closed)
+    → cause ≡ cause_of (opening_of (asked words) reading) course
+    → IfSome contents (λ told. IsComplete words told files_before files_after before after cause)
+complete-of words None reading course files_before files_after before after cause of_files possible loads faults cause_is = tt
+complete-of words (Some told) reading course files_before files_after before after cause of_files possible loads faults cause_is = λ h no_read no_sink.
+    rw cause_is (free-of (opening_of (asked words) reading) course files_before files_after before after (holds-fine words told reading h of_files) possible loads faults no_read no_sink)
+
+pub Runs-complete : (words : List (List ℕ)) (files_before files_after : FilesSeen) (before after : SinkSeen) (journal : List Entry) (cause : Option Cause)
+    → Runs words files_before files_after before after journal cause
+    → IfSome files_before.contents (λ told. IsComplete words told files_before.faults files_after.faults before.faults after.faults cause)
+Runs-complete words files_before files_after before after journal cause r =
+    complete-of words files_before.contents r.reading r.course files_before.faults files_after.faults before.faults after.faults cause
+    r.of_files r.possible (faults-of_loads (asked words) r.reading files_before files_after r.loads) r.faults r.cause_is

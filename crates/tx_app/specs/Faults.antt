@@ -39,7 +39,7 @@ pub record HoldsScene (words : List (List ℕ)) (told : List ℕ → Option (Lis
   pub tree_short : length tree ≤ file_limit
   pub sheet_told : told show.sheet ≡ Some sheet
   pub sheet_short : length sheet ≤ file_limit
-  pub opens : show_opening show (record { tree = Ok tree; sheet = Ok sheet }) ≡ Opens scene
+  pub opens : show_opening show (record { tree = Ok tree; sheet = Some (Ok sheet) }) ≡ Opens scene
 
 abbrev pub IsComplete : List (List ℕ) → (List ℕ → Option (List ℕ)) → ℕ → ℕ → ℕ → ℕ → Option Cause → Type 0
 IsComplete words told files_before files_after out_before out_after cause =

@@ -1,20 +1,22 @@
 -- What the steps of the reading answer.
-use Rattle.std.specs.Prelude.{◌≡◌, ◌≤◌, ℕ, Bool, true, false, List, length, Option, Result, Ok, Err, IfSome, if◌then◌else◌, Vec}
+use Rattle.std.specs.Prelude.{◌≡◌, ◌≤◌, ℕ, Bool, true, false, List, [], ◌∷◌, length, Some, Result, Ok, Err, IfSome, if◌then◌else◌, Vec}
 use Rattle.std.specs.declared.alloc.Global.{Global}
 use Rattle.tx_io.specs.declared.files.LoadFault.TheVariants.{Failed, TooLong as PastLimit, NoMemory as NoRoom}
-use Rattle.tx_io.specs.Faults.{raised}
-use Rattle.tx_io.specs.Store.{Answer, LoadGives, failures_of}
+use Rattle.tx_io.specs.Loading.{FilesSeen, load_of, after_loads}
+use Rattle.tx_io.specs.Store.{Answer, LoadGives}
 use Rattle.tx_app.specs.Words.{Show, asked}
+use Rattle.tx_app.specs.TreeForm.{texts_of}
 use Rattle.tx_app.specs.Scene.{Scene}
-use Rattle.tx_app.specs.Run.{Reading, Opening, Stops, Opens, IsOfFiles, file_limit, failed_loads, opening_of, show_opening, sheet_opening, texts_opening}
+use Rattle.tx_app.specs.Run.{Reading, Opening, Stops, Opens, IsOfFiles, MayWant, file_limit, loads_of, show_loads, opening_of, show_opening, sheet_opening, texts_opening}
 use Rattle.tx_app.specs.declared.outcome.Cause.{Cause}
 use Rattle.tx_app.specs.declared.outcome.Cause.TheVariants.{Refused, ReadFault, NoMemory}
 use Rattle.tx_app.specs.declared.outcome.Refusal.TheVariants.{TooLong}
 
--- A cause, or that memory was wanting.
+-- A cause, or that memory was wanting for it.
 pub record IsStop (expected actual : Cause) : Type 0 where
   pub wanting : Bool
   pub cause : actual ≡ (if wanting then NoMemory else expected)
+  pub may : MayWant wanting expected
 
 -- the cause of a load that gave no bytes
 abbrev pub GivesLoaded : List ℕ → Answer → Result (Vec ℕ Global) Cause → Type 0
@@ -26,58 +28,55 @@ GivesLoaded name (Err PastLimit) (Err cause) = IsStop (Refused name 0 0 TooLong)
 GivesLoaded name (Err NoRoom) (Err cause) = IsStop NoMemory cause
 
 -- a load, with the answer that it had
-pub record Loads (contents contents_after : Option (List ℕ → Option (List ℕ))) (before after : ℕ) (name : List ℕ) (result : Result (Vec ℕ Global) Cause) : Type 0 where
+pub record Loads (before after : FilesSeen) (name : List ℕ) (result : Result (Vec ℕ Global) Cause) : Type 0 where
   pub answer : Answer
-  pub of_files : IfSome contents (λ told. LoadGives (told name) file_limit answer)
-  pub kept : contents_after ≡ contents
-  pub faults : after ≡ raised before (failures_of answer)
+  pub of_files : IfSome before.contents (λ told. LoadGives (told name) file_limit answer)
+  pub loads : after ≡ after_loads before (load_of name file_limit answer ∷ [])
   pub gives : GivesLoaded name answer result
 
--- the scene that the reading comes to, or its cause, or that memory was wanting
+-- the scene that the reading comes to, or its cause, or that memory was wanting for that
 abbrev pub GivesScene : Bool → Opening → Result Scene Cause → Type 0
 GivesScene wanting (Stops expected) (Ok scene) = ⊥
-GivesScene wanting (Stops expected) (Err cause) = cause ≡ (if wanting then NoMemory else expected)
+GivesScene wanting (Stops expected) (Err cause) = (cause ≡ (if wanting then NoMemory else expected)) × MayWant wanting expected
 GivesScene false (Opens scene) (Ok read) = read ≡ scene
 GivesScene true (Opens scene) (Ok read) = ⊥
 GivesScene true (Opens scene) (Err cause) = cause ≡ NoMemory
 GivesScene false (Opens scene) (Err cause) = ⊥
 
--- The texts of a tree, whatever they come to, or the cause that stops the run before the sheet is loaded.
-abbrev pub GivesTexts : List ℕ → Answer → ℕ → ℕ → Bool → Result (Vec (List ℕ) Global) Cause → Type 0
-GivesTexts name answer before after wanting (Ok texts) =
-    (after ≡ before) × ((next : List (List ℕ) → Opening) → texts_opening name answer next ≡ next texts.items)
-GivesTexts name answer before after wanting (Err cause) =
-    (after ≡ raised before (failed_loads (texts_opening name answer (λ _. Stops NoMemory))))
-    × GivesScene wanting (texts_opening name answer (λ _. Stops NoMemory)) (Err cause)
+-- the texts of a tree, or the cause that stops the run before the sheet is loaded
+abbrev pub GivesTexts : List ℕ → Answer → Bool → Result (Vec (List ℕ) Global) Cause → Type 0
+GivesTexts name (Ok bytes) wanting (Ok texts) = texts_of bytes ≡ Ok texts.items
+GivesTexts name (Err fault) wanting (Ok texts) = ⊥
+GivesTexts name answer wanting (Err cause) = GivesScene wanting (texts_opening name answer (λ _. Stops NoMemory)) (Err cause)
 
 -- the tree is loaded and read
-pub record OpensTexts (contents contents_after : Option (List ℕ → Option (List ℕ))) (before after : ℕ) (name : List ℕ) (result : Result (Vec (List ℕ) Global) Cause) : Type 0 where
+pub record OpensTexts (before after : FilesSeen) (name : List ℕ) (result : Result (Vec (List ℕ) Global) Cause) : Type 0 where
   pub answer : Answer
   pub wanting : Bool
-  pub of_files : IfSome contents (λ told. LoadGives (told name) file_limit answer)
-  pub kept : contents_after ≡ contents
-  pub gives : GivesTexts name answer before after wanting result
+  pub of_files : IfSome before.contents (λ told. LoadGives (told name) file_limit answer)
+  pub loads : after ≡ after_loads before (load_of name file_limit answer ∷ [])
+  pub gives : GivesTexts name answer wanting result
 
 -- behind the tree: the sheet is loaded and read
-pub record OpensSheet (contents : Option (List ℕ → Option (List ℕ))) (before after : ℕ) (show : Show) (texts : List (List ℕ)) (result : Result Scene Cause) : Type 0 where
+pub record OpensSheet (before after : FilesSeen) (show : Show) (texts : List (List ℕ)) (result : Result Scene Cause) : Type 0 where
   pub sheet : Answer
   pub wanting : Bool
-  pub of_files : IfSome contents (λ told. LoadGives (told show.sheet) file_limit sheet)
-  pub faults : after ≡ raised before (failed_loads (sheet_opening show texts sheet))
-  pub gives : GivesScene wanting (sheet_opening show texts sheet) result
+  pub of_files : IfSome before.contents (λ told. LoadGives (told show.sheet) file_limit sheet)
+  pub loads : after ≡ after_loads before (load_of show.sheet file_limit sheet ∷ [])
+  pub gives : GivesScene wanting (sheet_opening show texts (Some sheet)) result
 
 -- the tree and the sheet
-pub record OpensTree (contents : Option (List ℕ → Option (List ℕ))) (before after : ℕ) (show : Show) (result : Result Scene Cause) : Type 0 where
+pub record OpensTree (before after : FilesSeen) (show : Show) (result : Result Scene Cause) : Type 0 where
   pub reading : Reading
   pub wanting : Bool
-  pub of_files : IsOfFiles contents show reading
-  pub faults : after ≡ raised before (failed_loads (show_opening show reading))
+  pub of_files : IsOfFiles before.contents show reading
+  pub loads : after ≡ after_loads before (show_loads show reading)
   pub gives : GivesScene wanting (show_opening show reading) result
 
 -- the words, the tree and the sheet
-pub record OpensWords (contents : Option (List ℕ → Option (List ℕ))) (before after : ℕ) (words : List (List ℕ)) (result : Result Scene Cause) : Type 0 where
+pub record OpensWords (before after : FilesSeen) (words : List (List ℕ)) (result : Result Scene Cause) : Type 0 where
   pub reading : Reading
   pub wanting : Bool
-  pub of_files : IfSome (asked words) (λ show. IsOfFiles contents show reading)
-  pub faults : after ≡ raised before (failed_loads (opening_of (asked words) reading))
+  pub of_files : IfSome (asked words) (λ show. IsOfFiles before.contents show reading)
+  pub loads : after ≡ after_loads before (loads_of (asked words) reading)
   pub gives : GivesScene wanting (opening_of (asked words) reading) result

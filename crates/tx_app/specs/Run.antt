@@ -5,6 +5,7 @@ use Rattle.tx_io.specs.declared.files.LoadFault.TheVariants.{Failed, TooLong as 
 use Rattle.tx_io.specs.declared.send.Sent.{Sent}
 use Rattle.tx_io.specs.Faults.{raised}
 use Rattle.tx_io.specs.Sending.{SinkSeen, Sends, failed_puts}
+use Rattle.tx_io.specs.Loading.{FilesSeen, Load, load_of, after_loads}
 use Rattle.tx_io.specs.Store.{Answer, LoadGives}
 use Rattle.tx_term.specs.Update.{update, closing}
 use Rattle.tx_app.specs.Words.{Show, asked}
@@ -27,15 +28,16 @@ use Rattle.tx_app.specs.declared.sheet_form.Looks.{Looks}
 abbrev pub file_limit : ℕ
 file_limit = 4194304
 
--- What the loads of the tree and of the sheet answer. An answer to a load that isn't made decides nothing.
+-- What the load of the tree answers, and that of the sheet, unless memory is wanting before it is made. An answer to a
+-- load that comes behind a tree outside the form decides nothing.
 pub record Reading : Type 0 where
   pub tree : Answer
-  pub sheet : Answer
+  pub sheet : Option Answer
 
 -- where the files tell what they hold, the answers are those of their contents
 abbrev pub IsOfFiles : Option (List ℕ → Option (List ℕ)) → Show → Reading → Type 0
-IsOfFiles contents show reading =
-    IfSome contents (λ told. LoadGives (told show.tree) file_limit reading.tree × LoadGives (told show.sheet) file_limit reading.sheet)
+IsOfFiles contents show reading = IfSome contents (λ told.
+    LoadGives (told show.tree) file_limit reading.tree × IfSome reading.sheet (λ sheet. LoadGives (told show.sheet) file_limit sheet))
 
 -- what the reading comes to: a cause that stops the run, or a scene
 pub data Opening : Type 0 where
@@ -60,8 +62,9 @@ fitted show texts looks (Some i) = Stops (Refused show.tree (i + 1) 1 Unbuilt)
 fitted show texts looks None = Opens (scene_of show.size texts looks)
 
 -- the sheet, behind the tree
-abbrev pub sheet_opening : Show → List (List ℕ) → Answer → Opening
-sheet_opening show texts sheet =
+abbrev pub sheet_opening : Show → List (List ℕ) → Option Answer → Opening
+sheet_opening show texts None = Stops NoMemory
+sheet_opening show texts (Some sheet) =
     loaded show.sheet sheet (λ bytes. in_form show.sheet (looks_of bytes) (λ looks.
     fitted show texts looks (first_misfit show.size looks.statics.height 1 texts)))
 
@@ -77,10 +80,25 @@ abbrev pub opening_of : Option Show → Reading → Opening
 opening_of None reading = Stops Usage
 opening_of (Some show) reading = show_opening show reading
 
--- how many loads failed: the sheet is loaded only behind a tree that is in the form
-abbrev pub failed_loads : Opening → ℕ
-failed_loads (Stops (ReadFault rose)) = rose
-failed_loads _ = 0
+-- ---- the loads
+
+-- the load of the sheet, which comes behind a tree in the form
+abbrev pub sheet_loads : List ℕ → Option Answer → Result (List (List ℕ)) ℕ → List Load
+sheet_loads name (Some answer) (Ok texts) = load_of name file_limit answer ∷ []
+sheet_loads name None (Ok texts) = []
+sheet_loads name answer (Err line) = []
+
+abbrev pub loads_behind : Show → Answer → Option Answer → List Load
+loads_behind show (Ok bytes) sheet = sheet_loads show.sheet sheet (texts_of bytes)
+loads_behind show (Err fault) sheet = []
+
+abbrev pub show_loads : Show → Reading → List Load
+show_loads show reading = load_of show.tree file_limit reading.tree ∷ loads_behind show reading.tree reading.sheet
+
+-- the loads that are made, in their order: none for refused words, else that of the tree, and that of the sheet behind it
+abbrev pub loads_of : Option Show → Reading → List Load
+loads_of None reading = []
+loads_of (Some show) reading = show_loads show reading
 
 -- ---- what the inputs don't decide
 
@@ -119,9 +137,16 @@ IsShown scene false [] closed = ⊥
 IsShown scene false (refreshing ∷ []) closed = CanBecome (first_update scene) refreshing × CanBeSent closing closed
 IsShown scene false (_ ∷ _ ∷ _) closed = ⊥
 
+-- Memory may be wanting where the reading stops the run: only the name of a refused file is copied there.
+abbrev pub MayWant : Bool → Cause → Type 0
+MayWant false cause = Unit {0}
+MayWant true (Refused file line column kind) = Unit {0}
+MayWant true NoMemory = Unit {0}
+MayWant true _ = ⊥
+
 -- nothing is sent where the reading stops the run
 abbrev pub IsCourse : Opening → Course → Type 0
-IsCourse (Stops cause) course = (course.refreshes ≡ []) × (course.closed ≡ unsent)
+IsCourse (Stops cause) course = (course.refreshes ≡ []) × (course.closed ≡ unsent) × MayWant course.wanting cause
 IsCourse (Opens scene) course = IsShown scene course.wanting course.refreshes course.closed
 
 -- ---- what follows
@@ -198,15 +223,15 @@ error_bytes (Some cause) = error_line cause
 
 -- The run of these words over these files and sinks: there are answers of the loads, and a course, from which all
 -- follows.
-pub record IsRun (words : List (List ℕ)) (contents : Option (List ℕ → Option (List ℕ))) (files_before files_after : ℕ) (out_before out_after err_before err_after : SinkSeen) (outcome : Outcome) : Type 0 where
+pub record IsRun (words : List (List ℕ)) (files_before files_after : FilesSeen) (out_before out_after err_before err_after : SinkSeen) (outcome : Outcome) : Type 0 where
   pub reading : Reading
   pub course : Course
-  pub of_files : IfSome (asked words) (λ show. IsOfFiles contents show reading)
+  pub of_files : IfSome (asked words) (λ show. IsOfFiles files_before.contents show reading)
   pub possible : IsCourse (opening_of (asked words) reading) course
-  pub loads : files_after ≡ raised files_before (failed_loads (opening_of (asked words) reading))
+  pub loads : files_after ≡ after_loads files_before (loads_of (asked words) reading)
   pub out : out_after.told ≡ append_known out_before.told (bytes_of (opening_of (asked words) reading) course)
   pub puts : out_after.faults ≡ raised out_before.faults (faults_of course.refreshes course.closed)
-  pub journal : outcome.journal.items ≡ map entry_of course.refreshes
+  pub journal : outcome.journal ≡ map entry_of course.refreshes
   pub cause : outcome.cause ≡ cause_of (opening_of (asked words) reading) course
   pub status : outcome.status ≡ status_of outcome.cause
   pub error_sent : Sent

@@ -3,10 +3,11 @@ use Rattle.std.specs.Prelude.{◌≡◌, ◌+◌, ◌-◌, ◌^◌, min, ℕ, Li
 use Rattle.std.specs.Io.KnownBytes.{append_known}
 use Rattle.tx_io.specs.declared.send.Sent.{Sent}
 use Rattle.tx_io.specs.Faults.{raised}
+use Rattle.tx_io.specs.Loading.{FilesSeen, after_loads}
 use Rattle.tx_io.specs.Sending.{SinkSeen, failed_puts}
 use Rattle.tx_app.specs.Scene.{Scene}
 use Rattle.tx_app.specs.Words.{asked}
-use Rattle.tx_app.specs.Run.{Reading, IsOfFiles, opening_of, failed_loads, Refreshing, Course, CanBecome, first_update, refresh_bytes, refresh_faults, entry_of, Opens, IsCourse, bytes_of, faults_of, cause_of, sink_cause}
+use Rattle.tx_app.specs.Run.{Reading, IsOfFiles, opening_of, loads_of, Refreshing, Course, CanBecome, first_update, refresh_bytes, refresh_faults, entry_of, Opens, IsCourse, bytes_of, faults_of, cause_of, sink_cause}
 use Rattle.tx_app.specs.declared.outcome.Cause.{Cause}
 use Rattle.tx_app.specs.declared.outcome.Cause.TheVariants.{NoMemory}
 use Rattle.tx_app.specs.declared.outcome.Entry.{Entry}
@@ -37,12 +38,12 @@ pub record Shows (before after : SinkSeen) (scene : Scene) (journal_before journ
   pub cause_is : cause ≡ cause_of (Opens scene) course
 
 -- the run up to its error line
-pub record Runs (words : List (List ℕ)) (contents : Option (List ℕ → Option (List ℕ))) (files_before files_after : ℕ) (before after : SinkSeen) (journal : List Entry) (cause : Option Cause) : Type 0 where
+pub record Runs (words : List (List ℕ)) (files_before files_after : FilesSeen) (before after : SinkSeen) (journal : List Entry) (cause : Option Cause) : Type 0 where
   pub reading : Reading
   pub course : Course
-  pub of_files : IfSome (asked words) (λ show. IsOfFiles contents show reading)
+  pub of_files : IfSome (asked words) (λ show. IsOfFiles files_before.contents show reading)
   pub possible : IsCourse (opening_of (asked words) reading) course
-  pub loads : files_after ≡ raised files_before (failed_loads (opening_of (asked words) reading))
+  pub loads : files_after ≡ after_loads files_before (loads_of (asked words) reading)
   pub told : after.told ≡ append_known before.told (bytes_of (opening_of (asked words) reading) course)
   pub faults : after.faults ≡ raised before.faults (faults_of course.refreshes course.closed)
   pub journal_is : journal ≡ map entry_of course.refreshes

@@ -1,6 +1,7 @@
 //! What the program does: from words, files and sinks to an outcome.
 #![tactic(auto)]
 
+mod journal;
 mod open;
 mod outcome;
 mod report;
@@ -13,6 +14,7 @@ mod text;
 mod tree_form;
 mod words;
 
+pub use journal::Journal;
 pub use outcome::{Cause, Entry, Outcome, Refreshed, Refusal};
 pub use run::top_alone;
 pub use text::Text;

@@ -1,5 +1,6 @@
 //! What a run comes to.
 
+use crate::journal::Journal;
 use crate::text::Text;
 
 /// What a run did.
@@ -9,7 +10,7 @@ pub struct Outcome {
     /// fault, 5 a sink fault, 6 want of memory.
     pub status: u8,
     /// What happened, in order.
-    pub journal: Vec<Entry>,
+    pub journal: Journal,
     /// Why the status isn't 0.
     pub cause: Option<Cause>,
 }

@@ -1,5 +1,6 @@
 //! The run.
 ghost use Rattle.std.specs.Prelude.{◌≡◌, [], map, IfSome, string_bytes};
+ghost use Rattle.tx_io.specs.Loading.{files_seen};
 ghost use Rattle.tx_io.specs.Sending.{seen, Sends, failed_puts};
 ghost use Rattle.tx_app.specs.Run.{IsRun, status_of, entry_of, Made};
 ghost use Rattle.tx_app.specs.Scene.{at_first};
@@ -7,6 +8,7 @@ ghost use Rattle.tx_app.specs.Showing.{Refreshes, Runs, Shows, entry_cause};
 ghost use Rattle.tx_app.specs.Faults.{CausedBy, IsComplete, read_faults, sink_faults};
 ghost use Rattle.tx_term.specs.Update.{closing};
 
+use crate::journal::Journal;
 use crate::open::open_words;
 use crate::outcome::{Cause, Entry, Outcome, Refreshed};
 use crate::report::report;
@@ -132,7 +134,7 @@ fn run<F: Files, K: Sink>(
     journal: &mut Vec<Entry>,
 ) -> Option<Cause>
     requires { journal.old.items ≡ [] }
-    ensures { Runs (map string_bytes words.now) (F.contents files.old) (F.faults files.old) (F.faults files.new) (seen (K.taken out.old) (K.faults out.old)) (seen (K.taken out.new) (K.faults out.new)) journal.new.items result }
+    ensures { Runs (map string_bytes words.now) (files_seen (F.contents files.old) (F.loads files.old) (F.faults files.old)) (files_seen (F.contents files.new) (F.loads files.new) (F.faults files.new)) (seen (K.taken out.old) (K.faults out.old)) (seen (K.taken out.new) (K.faults out.new)) journal.new.items result }
 {
     match open_words(alloc, files, words) {
         Ok(scene) => show(alloc, &scene, out, journal),
@@ -167,7 +169,8 @@ pub fn top_alone<F: Files, K: Sink, E: Sink>(
     out: &mut K,
     err: &mut E,
 ) -> Outcome
-    ensures run { IsRun (map string_bytes words.now) (F.contents files.old) (F.faults files.old) (F.faults files.new)
+    ensures run { IsRun (map string_bytes words.now) (files_seen (F.contents files.old) (F.loads files.old) (F.faults files.old))
+        (files_seen (F.contents files.new) (F.loads files.new) (F.faults files.new))
         (seen (K.taken out.old) (K.faults out.old)) (seen (K.taken out.new) (K.faults out.new))
         (seen (E.taken err.old) (E.faults err.old)) (seen (E.taken err.new) (E.faults err.new)) result }
 
@@ -184,7 +187,7 @@ pub fn top_alone<F: Files, K: Sink, E: Sink>(
     report(err, &cause);
     Outcome {
         status: status_of(&cause),
-        journal,
+        journal: Journal::of(journal),
         cause,
     }
 }

@@ -1,5 +1,9 @@
+mod recorded;
+
 use crate::{Cause, Entry, Outcome, Refreshed, Refusal, top_alone};
-use std::alloc::AllocError;
+use recorded::{Made, Recorded};
+use std::alloc::{AllocError, Global};
+use std::process::Abort;
 use std::test::Fail;
 use tx_io::{MemoryFiles, MemorySink};
 
@@ -24,31 +28,31 @@ struct Ran {
     err: MemorySink,
 }
 
-fn words_of(rt: &HostRuntime, words: &[&str]) -> Result<Vec<String>, AllocError> {
-    let mut all = Vec::new(rt.alloc());
+fn words_of(alloc: Global, words: &[&str]) -> Result<Vec<String>, AllocError> {
+    let mut all = Vec::new(alloc);
     for word in words {
-        all.push(String::from_str(rt.alloc(), word)?)?;
+        all.push(String::from_str(alloc, word)?)?;
     }
     Ok(all)
 }
 
-fn files_of(rt: &HostRuntime, given: &Given) -> Result<MemoryFiles, AllocError> {
-    let mut entries = Vec::new(rt.alloc());
+fn files_of(alloc: Global, given: &Given) -> Result<MemoryFiles, AllocError> {
+    let mut entries = Vec::new(alloc);
     entries.push((
-        String::from_str(rt.alloc(), "t.tree")?,
-        given.tree.to_vec(rt.alloc())?,
+        String::from_str(alloc, "t.tree")?,
+        given.tree.to_vec(alloc)?,
     ))?;
     entries.push((
-        String::from_str(rt.alloc(), "s.tcss")?,
-        given.sheet.to_vec(rt.alloc())?,
+        String::from_str(alloc, "s.tcss")?,
+        given.sheet.to_vec(alloc)?,
     ))?;
-    let failing = given.failing_loads.to_vec(rt.alloc())?;
+    let failing = given.failing_loads.to_vec(alloc)?;
     Ok(MemoryFiles::new(entries, failing))
 }
 
 fn run(rt: &HostRuntime, given: &Given) -> Result<Ran, AllocError> {
-    let words = words_of(rt, given.words)?;
-    let mut files = files_of(rt, given)?;
+    let words = words_of(rt.alloc(), given.words)?;
+    let mut files = files_of(rt.alloc(), given)?;
     let mut out = MemorySink::new(rt.alloc(), given.out_fails.to_vec(rt.alloc())?);
     let mut err = MemorySink::new(rt.alloc(), given.err_fails.to_vec(rt.alloc())?);
     let outcome = top_alone(rt.alloc(), &words, &mut files, &mut out, &mut err);
@@ -217,7 +221,7 @@ fn refuses(rt: &HostRuntime, given: &Given, status: u8, line: &str) -> Result<()
     expect(ran.err.taken() == line.as_bytes(), "the error line")?;
     expect(ran.outcome.status == status, "the status")?;
     expect(ran.out.taken().is_empty(), "the bytes")?;
-    expect(ran.outcome.journal.is_empty(), "the journal")?;
+    expect(ran.outcome.journal.as_slice().is_empty(), "the journal")?;
     expect(is_cause(&ran.outcome.cause, status), "the cause")
 }
 
@@ -349,6 +353,61 @@ fn a_failed_load_ends_the_run(rt: HostRuntime) -> Result<(), Fail> {
         3,
         "tx: read fault\n",
     )
+}
+
+/// The load was of this file, with the limit of 4 MiB, and gave its content or not.
+fn is_load(made: &Made, name: &str, given: bool) -> bool {
+    made.name.as_str() == name && made.limit == 4_194_304 && made.answer.is_ok() == given
+}
+
+/// A run makes these loads, in this order and no others.
+fn loads<R: Abort>(
+    rt: &R,
+    alloc: Global,
+    given: &Given,
+    wanted: &[(&str, bool)],
+) -> Result<(), Fail> {
+    let words = words_of(alloc, given.words)?;
+    let mut files = Recorded::new(rt, alloc, files_of(alloc, given)?);
+    let mut out = MemorySink::new(alloc, Vec::new(alloc));
+    let mut err = MemorySink::new(alloc, Vec::new(alloc));
+    let _ = top_alone(alloc, &words, &mut files, &mut out, &mut err);
+    expect(files.loads().len() == wanted.len(), "the number of loads")?;
+    for (made, (name, given)) in files.loads().iter().zip(wanted) {
+        expect(is_load(made, name, *given), "the load")?;
+    }
+    Ok(())
+}
+
+#[test]
+fn each_file_is_loaded_once_in_its_turn(rt: HostRuntime) -> Result<(), Fail> {
+    let failing = |failing_loads| Given {
+        failing_loads,
+        ..STATICS
+    };
+    let other_tree = Given {
+        tree: b"Screen\n  Button\n",
+        ..STATICS
+    };
+    let no_words = Given {
+        words: &["tx", "show", "t.tree"],
+        ..STATICS
+    };
+    loads(
+        &rt,
+        rt.alloc(),
+        &STATICS,
+        &[("t.tree", true), ("s.tcss", true)],
+    )?;
+    loads(
+        &rt,
+        rt.alloc(),
+        &failing(&[2]),
+        &[("t.tree", true), ("s.tcss", false)],
+    )?;
+    loads(&rt, rt.alloc(), &failing(&[1]), &[("t.tree", false)])?;
+    loads(&rt, rt.alloc(), &other_tree, &[("t.tree", true)])?;
+    loads(&rt, rt.alloc(), &no_words, &[])
 }
 
 /// What `err` takes of the line changes nothing else.

@@ -81,6 +81,8 @@ fn read_front<R: rt::Files>(rt: &R, alloc: Global, name: &str, limit: u64) -> io
 impl<R: rt::Files> Files for HostFiles<'_, R> {
     ghost contents = { λ _. None };
 
+    ghost loads = { λ _. None };
+
     ghost faults = { λ f. f };
 
     fn load(&mut self, alloc: Global, name: &str, limit: u64) -> Result<Vec<u8>, LoadFault> {

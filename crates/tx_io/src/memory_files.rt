@@ -1,4 +1,4 @@
-ghost use Rattle.std.specs.Prelude.{◌≡◌, ◌≤◌, ℕ, ◌+◌, ◌-◌, ◌^◌, Some, IfOk, IfSome, min, vec_len, option_map, if◌then◌else◌};
+ghost use Rattle.std.specs.Prelude.{◌≡◌, ◌≤◌, ℕ, ◌+◌, ◌-◌, ◌^◌, List, [], ◌∷◌, Option, None, Some, IfOk, IfSome, min, vec_len, option_map, if◌then◌else◌};
 ghost use Rattle.tx_io.specs.Faults.{raised};
 ghost use Rattle.tx_io.specs.Memory.{FilesState, stored, load_fails};
 ghost use Rattle.tx_io.specs.Store.{LoadGives, answer_of, failures_of, look_up};
@@ -50,7 +50,11 @@ fn content_of<'a>(files: &'a [(String, Vec<u8>)], name: &str) -> Option<&'a [u8]
 }
 
 impl Files for MemoryFiles {
+    ghost use Rattle.tx_io.specs.Loading.{Load, load_of, append_loads};
+
     ghost contents = { λ f. Some (look_up f.entries) };
+
+    ghost loads = { λ _. None };
 
     ghost faults = { λ f. f.faults };
 
@@ -58,6 +62,7 @@ impl Files for MemoryFiles {
         ensures gives { LoadGives (look_up self.old.entries name.now) limit (answer_of result) }
         ensures bounded { IfOk result (λ bytes. vec_len bytes ≤ limit) }
         ensures kept { Some (look_up self.new.entries) ≡ Some (look_up self.old.entries) }
+        ensures told { let untold : Option (List Load) = None in untold ≡ append_loads untold (load_of name.now limit (answer_of result) ∷ []) }
         ensures faults { self.new.faults ≡ raised self.old.faults (failures_of (answer_of result)) }
 
         // It fails exactly where it is planned to and where there is no such name.
