@@ -1,8 +1,11 @@
 pub mod Amounts
+pub mod Decimals
 pub mod Ends
 pub mod Floors
+pub mod Multiples
 pub mod Numbers
 pub mod Options
+pub mod Ordinary
 pub mod Passes
 pub mod Places
 pub mod Shares

@@ -3,3 +3,4 @@ pub mod Laws
 pub mod Sizes
 pub mod Axis
 pub mod Shape
+pub mod Ordinary

@@ -2,6 +2,7 @@
 //! definition that [`crate::resolve_axis`] gives the spans of.
 
 ghost use Rattle.tx_box.specs.Laws.{FillsTotal, OneUnit};
+ghost use Rattle.tx_box.specs.Ordinary.{OrdinaryAxis, OrdinaryBox};
 
 /// Each item with a share in `fr` gets its share of one unit, which is the same for all of them,
 /// or its least size, its greatest size or 65,535.
@@ -20,4 +21,26 @@ pub fn fills_total()
     tx_frac::laws::one_form();
     tx_frac::laws::sums_over_one();
     tx_frac::laws::products_over_two();
+}
+
+/// The spans are always defined for numbers as stylesheets write them: of at most 9 whole digits
+/// and 3 decimals, for at most 100,000 items, in areas, bases and screens of at most 2^23 cells,
+/// with any padding, border, content and gaps.
+pub fn ordinary_axis()
+    ensures { OrdinaryAxis }
+{
+    tx_frac::laws::one_form();
+    tx_frac::laws::sums_over_one();
+    tx_frac::laws::products_over_two();
+    tx_frac::laws::defined_in_range();
+}
+
+/// The size of one box is always defined for such numbers.
+pub fn ordinary_box()
+    ensures { OrdinaryBox }
+{
+    tx_frac::laws::one_form();
+    tx_frac::laws::sums_over_one();
+    tx_frac::laws::products_over_two();
+    tx_frac::laws::defined_in_range();
 }

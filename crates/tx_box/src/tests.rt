@@ -1,4 +1,4 @@
-ghost use Rattle.std.specs.Prelude.{◌≡◌, ◌+◌, ◌≤◌, ◌≤ℤ◌, pos, length, All, IfSome};
+ghost use Rattle.std.specs.Prelude.{◌≡◌, ◌+◌, ◌<◌, ◌≤◌, ◌≤ℤ◌, pos, length, All, IfOk, IfSome};
 ghost use Rattle.tx_box.specs.Item.{IsSized, IsLimit, NotNegative};
 
 use crate::{Basis, Item, LayoutFault, Span, box_of, resolve_axis};
@@ -98,7 +98,7 @@ fn ends(
     own: &[Size],
 ) -> Result<Vec<(i64, i64)>, Fail>
     requires sized { All IsSized items.now }
-    requires count { length items.now ≤ 100 }
+    requires count { length items.now ≤ 100000 }
     requires gaps { length gaps.now ≡ length items.now + 1 }
     requires own { length own.now ≡ length items.now }
 {
@@ -227,6 +227,112 @@ fn stands_behind_gaps(rt: HostRuntime) -> Result<(), Fail> {
     Ok(())
 }
 
+// The greatest number of 9 whole digits and 3 decimals, less so many thousandths.
+fn ordinary(less: u32, unit: Unit) -> Option<Scalar>
+    ensures unit { IfSome result (λ s. s.unit ≡ unit) }
+    ensures value { IfSome result (λ s. NotNegative s.value) }
+{
+    let value = fraction(999_999_999_999 - less as i128, 1000)?;
+    Some(Scalar { value, unit })
+}
+
+// So many shares of nearly the same size. Every third one is kept below its share.
+fn ordinary_shares(alloc: Global, count: usize) -> Result<Vec<Item>, Fail>
+    requires { count ≤ 100000 }
+    ensures sized { IfOk result (λ items. All IsSized items.items) }
+    ensures count { IfOk result (λ items. length items.items ≡ count) }
+{
+    let most = Scalar {
+        value: fraction(1, 1000).ok_or("no fraction")?,
+        unit: Unit::Percent,
+    };
+    let mut items = Vec::with_capacity(alloc, count)?;
+    for index in 0..count {
+        let Some(share) = ordinary_share((index % 997) as u32, most) else {
+            return Err("no fraction".into());
+        };
+        items.push(share)?;
+    }
+    Ok(items)
+}
+
+fn ordinary_share(number: u32, most: Scalar) -> Option<Item>
+    requires number { number < 1000 }
+    requires most { IsLimit most }
+    ensures { IfSome result IsSized }
+{
+    let mut share = item(ordinary(number, Unit::Fr)?);
+    if number % 3 == 0 {
+        share.most = Some(most);
+    }
+    Some(share)
+}
+
+const WIDE: Size = Size {
+    width: 8_388_608,
+    height: 8_388_608,
+};
+
+const WIDEST: Basis = Basis {
+    area: WIDE,
+    screen: WIDE,
+};
+
+// The places between the spans are fractions whose denominators have up to 20 digits, and the last
+// end is the whole width.
+#[test]
+fn shares_a_width_between_100_000(rt: HostRuntime) -> Result<(), Fail> {
+    let alloc = rt.alloc();
+    let items = ordinary_shares(alloc, 100_000)?;
+    let gaps = vec![in alloc; 0u32; 100_001]?;
+    let base = Size {
+        width: 8_388_607,
+        ..WIDE
+    };
+    let own = vec![in alloc; base; 100_000]?;
+    let spans = resolve_axis(alloc, &items, &gaps, Axis::Width, WIDEST, &own)?;
+    assert_eq!(rt; spans.len(), 100_000);
+    if let Some(last) = spans.last() {
+        assert_eq!(rt; last.to, 8_388_608);
+    }
+    Ok(())
+}
+
+#[test]
+fn lays_out_the_largest_ordinary_numbers(rt: HostRuntime) -> Result<(), Fail> {
+    let largest = Item {
+        least: ordinary(0, Unit::Percent),
+        most: ordinary(0, Unit::Vh),
+        gutter: u32::MAX,
+        sizing: BoxSizing::ContentBox,
+        auto: u32::MAX,
+        ..item(ordinary(0, Unit::W).ok_or("no fraction")?)
+    };
+    assert_eq!(rt; box_of(&largest, Axis::Height, WIDEST, WIDE)?, 65_535);
+    let gaps = [u32::MAX, u32::MAX, u32::MAX];
+    let share = item(ordinary(0, Unit::Fr).ok_or("no fraction")?);
+    let spans = resolve_axis(
+        rt.alloc(),
+        &[largest, share],
+        &gaps,
+        Axis::Width,
+        WIDEST,
+        &[WIDE, WIDE],
+    )?;
+    let want = [
+        Span {
+            from: 4_294_967_295,
+            to: 4_295_032_830,
+        },
+        Span {
+            from: 8_590_000_125,
+            to: 8_590_000_125,
+        },
+    ];
+    assert_eq!(rt; spans.as_slice(), want.as_slice());
+    Ok(())
+}
+
 #[test]
 fn refuses_a_fraction_past_128_bits(rt: HostRuntime) -> Result<(), Fail> {
     let ten_to_18: i128 = 1_000_000_000_000_000_000;
@@ -238,6 +344,9 @@ fn refuses_a_fraction_past_128_bits(rt: HostRuntime) -> Result<(), Fail> {
         value: fraction(999_999_999_999_999_999_999_999_999, ten_to_18).ok_or("no fraction")?,
         unit: Unit::Fr,
     };
+    // What a third leaves of 100 can't be divided by the share.
+    let left = Frac::whole(100).sub(third.value).ok_or("no fraction")?;
+    assert!(rt; left.div(large.value).is_none());
     let own = Size {
         width: 100,
         height: 1,
