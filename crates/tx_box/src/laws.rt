@@ -1,5 +1,5 @@
-//! What authors expect of an axis, as contracts of functions that do nothing. They hold of the
-//! definition that [`crate::resolve_axis`] gives the spans of.
+//! What authors expect of an axis and of a box, as contracts of functions that do nothing. They hold
+//! of the definitions that [`crate::resolve_axis`] and [`crate::box_of`] give the answers of.
 
 ghost use Rattle.tx_box.specs.Laws.{FillsTotal, OneUnit};
 ghost use Rattle.tx_box.specs.Ordinary.{OrdinaryAxis, OrdinaryBox};
