@@ -1,2 +1,3 @@
+pub mod ManyItems
 pub mod NumberLemmas
 pub mod PiecesLemmas

@@ -1,0 +1,7 @@
+pub mod FirstBytes
+pub mod Fronts
+pub mod Longest
+pub mod LongestTokens
+pub mod Numbers
+pub mod OneKind
+pub mod Scanning

@@ -1,0 +1,5 @@
+pub mod Bytes
+pub mod IsLexed
+pub mod Lexing
+pub mod Reads
+pub mod Tokens
