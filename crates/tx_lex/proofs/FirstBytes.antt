@@ -1,16 +1,15 @@
 -- The token that is read is the longest of all kinds.
-use Rattle.std.proofs.Common.{◌≡◌, ◌⊎◌, inl, inr, ℕ, zero, suc, ◌+◌, ◌<◌, ◌≤◌, Bool, true, false, cond, ◌&&◌, ◌||◌, nat_eq, nat_le, nat_lt, List, [], ◌∷◌, length, take, Option, None, Some, option_map, refl, ap, sym, ◌∙◌, subst, arith}
+use Rattle.std.proofs.Common.{◌≡◌, ◌⊎◌, inl, inr, ℕ, zero, suc, ◌+◌, ◌<◌, ◌≤◌, Bool, true, false, cond, ◌&&◌, ◌||◌, nat_eq, nat_le, List, [], ◌∷◌, length, take, None, Some, refl, ap, sym, ◌∙◌, subst, arith}
 use Rattle.std.proofs.lemmas.Bool.{eqb-true, ne_eqb}
 use Rattle.std.proofs.lemmas.Bool.Decides.{nat_tests}
 use Rattle.std.specs.Char.{is_ascii_alphabetic, is_ascii_digit}
 use Rattle.std.specs.List.{list_all, prefix_len}
 use Rattle.tx_lex.specs.Bytes.{is_blank, begins_name, is_name_byte, is_mark}
 use Rattle.tx_lex.specs.Tokens.{is_space, is_comment, is_name, is_hash, is_variable, is_number, is_whole, is_behind_point, is_unsigned, is_mark_of, is_token, IsLongest, PassesNone, IsLongestToken, BeginsNone}
-use Rattle.tx_lex.specs.Lexing.{hash_len, variable_len, comment_len, number_len, of_kind, number_or_point, longest_token}
+use Rattle.tx_lex.specs.Lexing.{hash_len, variable_len}
 use Rattle.tx_lex.specs.declared.token.TokenKind.{TokenKind}
 use Rattle.tx_lex.specs.declared.token.TokenKind.TheVariants.{Space, Comment, Name, Hash, Variable, Number, Mark}
-use Rattle.tx_lex.proofs.Longest.{Finds, longest-next, none-first, longest-some, none-some, some_of, longest-all, finds-next, longest-same}
-use Rattle.tx_lex.proofs.Numbers.{finds-number, finds-comment, comment-other}
+use Rattle.tx_lex.proofs.Longest.{Finds, longest-next, none-first, longest-some, none-some, some_of, longest-all, finds-next}
 
 -- ---- which kinds a first byte begins
 

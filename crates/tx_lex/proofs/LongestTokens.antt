@@ -1,10 +1,10 @@
 -- The token that is read is the longest of all kinds, and none is read where none begins.
-use Rattle.std.proofs.Common.{◌≡◌, ◌⊎◌, inl, inr, ℕ, zero, suc, ◌+◌, ◌<◌, ◌≤◌, Bool, true, false, cond, ◌&&◌, ◌||◌, nat_eq, List, [], ◌∷◌, length, take, Option, None, Some, option_map, refl, ap, sym, ◌∙◌, subst, arith}
+use Rattle.std.proofs.Common.{◌≡◌, inl, inr, ℕ, zero, suc, ◌+◌, ◌<◌, Bool, true, false, cond, ◌&&◌, ◌||◌, nat_eq, List, [], ◌∷◌, take, Option, None, Some, option_map, refl, ap, sym, ◌∙◌, subst, arith}
 use Rattle.std.proofs.lemmas.Bool.{eqb-true, eq-eqb}
 use Rattle.std.specs.Char.{is_ascii_digit}
 use Rattle.std.specs.List.{list_all, prefix_len}
 use Rattle.tx_lex.specs.Bytes.{is_blank, begins_name, is_name_byte, is_mark}
-use Rattle.tx_lex.specs.Tokens.{is_space, is_comment, is_name, is_hash, is_variable, is_number, is_mark_of, is_token, IsLongest, PassesNone, IsLongestToken, BeginsNone}
+use Rattle.tx_lex.specs.Tokens.{is_space, is_comment, is_name, is_hash, is_variable, is_number, is_token, IsLongest, PassesNone, IsLongestToken, BeginsNone}
 use Rattle.tx_lex.specs.Lexing.{behind_point_len, hash_len, variable_len, comment_len, whole_len, unsigned_len, number_len, of_kind, number_or_point, longest_token}
 use Rattle.tx_lex.specs.declared.token.TokenKind.{TokenKind}
 use Rattle.tx_lex.specs.declared.token.TokenKind.TheVariants.{Space, Comment, Name, Hash, Variable, Number, Mark}

@@ -2,9 +2,9 @@
 use Rattle.std.proofs.Common.{◌≡◌, ℕ, zero, suc, ◌+◌, ◌<◌, ◌≤◌, Bool, true, false, cond, ◌&&◌, nat_eq, List, [], ◌∷◌, length, take, drop, Option, None, Some, option_map, refl, ap, sym, ◌∙◌, subst, arith}
 use Rattle.std.specs.Char.{is_ascii_alphabetic, is_ascii_digit}
 use Rattle.std.specs.List.{list_all, prefix_len}
-use Rattle.tx_lex.specs.Tokens.{is_none, is_unit, is_decimals, is_behind_point, is_whole, is_unsigned, is_number, closes_behind, closes, is_comment, IsLongest, PassesNone}
-use Rattle.tx_lex.specs.Lexing.{unit_len, decimals_len, behind_point_len, with_point, behind_whole_len, whole_len, unsigned_len, number_len, close_behind, close_len, opens_comment, comment_len}
-use Rattle.tx_lex.proofs.Longest.{Finds, longest-next, none-next, none-first, nothing-finds, finds-next, longest-same, longest-zero, longest-nothing, longest-is_none, longest-all}
+use Rattle.tx_lex.specs.Tokens.{is_none, is_unit, is_decimals, is_behind_point, is_whole, is_unsigned, is_number, closes_behind, closes, is_comment, IsLongest}
+use Rattle.tx_lex.specs.Lexing.{unit_len, decimals_len, behind_point_len, with_point, behind_whole_len, whole_len, unsigned_len, number_len, close_behind, close_len, comment_len}
+use Rattle.tx_lex.proofs.Longest.{Finds, longest-next, none-first, nothing-finds, finds-next, longest-zero, longest-nothing, longest-is_none, longest-all}
 
 -- ---- numbers
 

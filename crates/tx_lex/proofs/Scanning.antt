@@ -1,9 +1,9 @@
 -- Tokens one behind another: the steps of the loop, and what is read.
-use Rattle.std.proofs.Common.{◌≡◌, ◌⊎◌, inl, inr, ℕ, zero, suc, ◌+◌, ◌-◌, ◌<◌, ◌≤◌, Bool, true, false, not, List, [], ◌∷◌, ◌++◌, length, take, drop, Option, None, Some, Result, Ok, Err, refl, ap, sym, ◌∙◌, subst, arith, length-drop}
+use Rattle.std.proofs.Common.{◌≡◌, ◌⊎◌, inl, inr, ℕ, ◌-◌, ◌<◌, ◌≤◌, true, false, not, List, [], ◌∷◌, ◌++◌, length, take, drop, Option, None, Some, Result, Ok, Err, refl, ap, sym, ◌∙◌, subst, arith, length-drop}
 use Rattle.std.proofs.lemmas.List.{append-nil}
-use Rattle.tx_read.specs.Reading.{Reader, Run, ends_at, behind_items, many, Shrinks, Items, StopsAt, IsFound}
+use Rattle.tx_read.specs.Reading.{behind_items, Shrinks, Items, StopsAt, IsFound}
 use Rattle.tx_read.proofs.ManyItems.{many-item, many-end, many-fault, many-found, many-again}
-use Rattle.tx_lex.specs.Tokens.{is_none, is_token, IsLongest, PassesNone, IsLongestToken, BeginsNone}
+use Rattle.tx_lex.specs.Tokens.{is_none, is_token, IsLongestToken}
 use Rattle.tx_lex.specs.Lexing.{Spot, spot_at, start_of, spot_behind, token_of, fault_of, wrong_in, wrong_here, longest_token, sound_token, judged, token_at, is_more, left, tokens_from, fault_at_end, of_run, lexed}
 use Rattle.tx_lex.specs.IsLexed.{IsTokenAt, IsWrongToken, IsNoToken, EndsWith, IsLexed, LexedIsExact}
 use Rattle.tx_lex.specs.declared.token.Token.{Token}

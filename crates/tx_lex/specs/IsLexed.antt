@@ -1,5 +1,5 @@
 -- Which tokens bytes are, and which is their first fault, said by the table of tokens.
-use Rattle.std.specs.Prelude.{◌≡◌, ◌<◌, ℕ, ◌+◌, ◌⊎◌, List, [], take, Option, None, Some}
+use Rattle.std.specs.Prelude.{◌≡◌, ℕ, ◌⊎◌, List, [], take, Option, None, Some}
 use Rattle.tx_read.specs.Reading.{Items}
 use Rattle.tx_lex.specs.Tokens.{IsLongestToken, BeginsNone}
 use Rattle.tx_lex.specs.Lexing.{Spot, start_of, spot_behind, token_of, fault_of, wrong_in, wrong_here, lexed}

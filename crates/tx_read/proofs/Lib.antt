@@ -1,3 +1,5 @@
+pub mod Locality
 pub mod ManyItems
+pub mod ManyLocal
 pub mod NumberLemmas
 pub mod PiecesLemmas

@@ -28,7 +28,7 @@ many_within-enough size begins item shrinks (suc most) zero s small also =
     ap (λ b. cond b (then_items (item s) (many_within most begins item)) (ends_at (Ok s))) none
 many_within-enough size begins item shrinks (suc most) (suc more) s small also =
     ap (λ run. cond (begins s) run (ends_at (Ok s))) (then_items-same size begins item shrinks s (many_within most begins item) (many_within more begins item)
-        (λ next less. many_within-enough size begins item shrinks most more next (omega (arith, less, small)) (omega (arith, less, also))) (item s) refl)
+    (λ next less. many_within-enough size begins item shrinks most more next (omega (arith, less, small)) (omega (arith, less, also))) (item s) refl)
 
 -- one item, and then the others
 pub many-step : {A S F : Type 0} (size : S → ℕ) (begins : S → Bool) (item : Reader S F A) → Shrinks size begins item → (s : S)
@@ -47,8 +47,8 @@ pub many-item : {A S F : Type 0} (size : S → ℕ) (begins : S → Bool) (item 
     → begins s ≡ true → item s ≡ Ok (a, next) → behind_items front (many size begins item s) ≡ behind_items (front ++ (a ∷ [])) (many size begins item next)
 many-item size begins item shrinks front s next a begun is =
     ap (behind_items front) (many-step size begins item shrinks s
-        ∙ ap (λ b. cond b (then_items (item s) (many size begins item)) (ends_at (Ok s))) begun
-        ∙ ap (λ found. then_items found (many size begins item)) is)
+    ∙ ap (λ b. cond b (then_items (item s) (many size begins item)) (ends_at (Ok s))) begun
+    ∙ ap (λ found. then_items found (many size begins item)) is)
     ∙ behind_items-append front (a ∷ []) (many size begins item next)
 
 -- the end of a loop: no further item begins

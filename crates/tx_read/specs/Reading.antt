@@ -11,6 +11,10 @@ abbrev pub ◌>>=◌ : {F A B : Type 0} → Result A F → (A → Result B F) �
 (Ok x) >>= f = f x
 (Err fault) >>= f = Err fault
 
+-- one reader behind another, which is chosen by what the first one gave
+abbrev pub in_turn : {S F A B : Type 0} → Reader S F A → (A → Reader S F B) → Reader S F B
+in_turn first second s = first s >>= (λ found. second found.0 found.1)
+
 -- ---- items one behind another
 
 -- The items that were read, and the state behind them, or the fault that was met there.
@@ -40,6 +44,14 @@ many_within (suc most) begins item s = if begins s then then_items (item s) (man
 unfoldable pub many : {A S F : Type 0} → (S → ℕ) → (S → Bool) → Reader S F A → S → Run A S F
 many size begins item s = many_within (size s) begins item s
 
+-- all items and the state behind them, or the first fault
+abbrev pub with_items : {A S F : Type 0} → List A → Result S F → Result (List A × S) F
+with_items items (Ok s) = Ok (items, s)
+with_items items (Err fault) = Err fault
+
+abbrev pub whole : {A S F : Type 0} → Run A S F → Result (List A × S) F
+whole run = with_items run.items run.end
+
 -- each item takes something, and none begins where nothing is left
 pub record Shrinks {A S F : Type 0} (size : S → ℕ) (begins : S → Bool) (item : Reader S F A) : Type 0 where
   pub ends : (s : S) → size s ≡ 0 → begins s ≡ false
@@ -68,6 +80,10 @@ pub record IsFound {A S F : Type 0} (IsItem : S → A → S → Type 0) (begins 
 pub record IsLocal {T K A : Type 0} (reader : Reader (List T) (K × List T) A) : Type 0 where
   pub value : (front more other : List T) (t : T) (a : A) → reader (front ++ (t ∷ more)) ≡ Ok (a, t ∷ more) → reader (front ++ (t ∷ other)) ≡ Ok (a, t ∷ other)
   pub fault : (front more other : List T) (t : T) (kind : K) → reader (front ++ (t ∷ more)) ≡ Err (kind, t ∷ more) → reader (front ++ (t ∷ other)) ≡ Err (kind, t ∷ other)
+
+-- whether an item begins depends on the first element alone
+pub record ByFirst {T : Type 0} (begins : List T → Bool) : Type 0 where
+  pub same : (t : T) (xs ys : List T) → begins (t ∷ xs) ≡ begins (t ∷ ys)
 
 -- what a reader leaves, and where it meets a fault, is an end of what it was given
 pub record Leaves {T K A : Type 0} (reader : Reader (List T) (K × List T) A) : Type 0 where

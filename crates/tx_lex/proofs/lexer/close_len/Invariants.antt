@@ -1,4 +1,4 @@
-use Rattle.std.proofs.Common.{◌≡◌, ℕ, ◌+◌, drop, option_map}
+use Rattle.std.proofs.Common.{◌≡◌, ◌+◌, drop, option_map}
 use Rattle.tx_lex.specs.Lexing.{close_len, close_behind}
 use Rattle.tx_lex.proofs.lexer.close_len.Given as goal
 

@@ -1,6 +1,6 @@
-use Rattle.std.proofs.Common.{◌≤◌, ◌++◌, ◌∷◌, [], Some, None, ap, ◌∙◌, sym, arith, subst}
+use Rattle.std.proofs.Common.{Some, None, ap, ◌∙◌}
 use Rattle.tx_read.specs.Reading.{behind_items}
-use Rattle.tx_lex.specs.Lexing.{spot_at, tokens_from, of_run, lexed}
+use Rattle.tx_lex.specs.Lexing.{spot_at, tokens_from, of_run}
 use Rattle.tx_lex.proofs.Scanning.{scanned, scan-token, scan-fault, scan-end}
 use Rattle.tx_lex.proofs.lexer.scan.Goals as goal
 

@@ -1,4 +1,4 @@
-use Rattle.std.proofs.Common.{◌≡◌, ◌≤◌, ℕ, ◌-◌, length}
+use Rattle.std.proofs.Common.{◌≡◌, ◌≤◌, ◌-◌, length}
 use Rattle.tx_read.specs.Reading.{behind_items}
 use Rattle.tx_lex.specs.Lexing.{lexed, of_run, spot_at, tokens_from}
 use Rattle.tx_lex.proofs.lexer.scan.Given as goal
