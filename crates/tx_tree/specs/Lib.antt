@@ -1,0 +1,15 @@
+pub mod Name
+pub mod StoredName
+pub mod Kind
+pub mod Classes
+pub mod Row
+pub mod Rows
+pub mod Mount
+pub mod Edits
+pub mod TreeValue
+pub mod WellFormed
+pub mod Spelled
+pub mod Refusal
+pub mod ChildLists
+pub mod Links
+pub mod Tree
