@@ -14,6 +14,7 @@ use Rattle.tx_tree.proofs.MountedNodes.{in_bounds}
 use Rattle.tx_tree.proofs.Ids.{any-row, row-any}
 use Rattle.tx_tree.specs.Row.{plain, has_number}
 use Rattle.tx_tree.specs.Rows.{row_at, from_of, first_row, second_row, next_of, deeper, children_of, first_children, count_of}
+use Rattle.tx_tree.specs.Walk.{rest_from}
 use Rattle.tx_tree.specs.Spelled.{is_spelled}
 use Rattle.tx_tree.specs.Links.{Slots, slots, rows_at, rows_of, times, node_id, slot_is_spelled, IsLinked}
 use Rattle.tx_tree.specs.declared.row.Row.{Row}
@@ -121,11 +122,6 @@ row_at-from n (row ∷ rows) = elim (cases_Bool (has_number n row)) [
   | inr other-it ↦ rw other-it (row_at-from n rows)
 ]
 
--- the rows from a row on, if there is one
-abbrev pub rest_from : Option NodeId → List Row → List Row
-rest_from None rows = []
-rest_from (Some node) rows = from_of node.0 rows
-
 -- rows from a number on begin somewhere in the rows
 from_of-part : (n : ℕ) (rows : List Row) → (front : List Row) × (rows ≡ front ++ from_of n rows)
 from_of-part n [] = ([], refl)
@@ -155,7 +151,7 @@ rest_from-next n rows once row (next ∷ tail) e =
 abbrev pub left_from : Option NodeId → List Row → ℕ
 left_from here rows = length (rest_from here rows) + cond (is_some here) 1 0
 
-found_first : (r : Row) (xs : List Row) → Some r ≡ first_row xs → (tail : List Row) × (xs ≡ r ∷ tail)
+pub found_first : (r : Row) (xs : List Row) → Some r ≡ first_row xs → (tail : List Row) × (xs ≡ r ∷ tail)
 found_first r [] h = cc
 found_first r (x ∷ xs) h = (xs, ap (λ (o : Option Row). unwrap_or o r ∷ xs) (sym h))
 

@@ -8,6 +8,7 @@ pub mod Mount
 pub mod Edits
 pub mod TreeValue
 pub mod WellFormed
+pub mod Walk
 pub mod Spelled
 pub mod Refusal
 pub mod ChildLists

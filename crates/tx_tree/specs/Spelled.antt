@@ -6,9 +6,9 @@ use Rattle.std.specs.Str.{bytes_eq}
 use Rattle.tx_tree.specs.Classes.{has_name}
 use Rattle.tx_tree.specs.declared.bind.Bind.{Bind}
 use Rattle.tx_tree.specs.declared.bind.Key.{Key}
-use Rattle.tx_tree.specs.declared.bind.Key.TheVariants.{Char, Enter, Escape, Tab, ShiftTab, Backspace, Delete, Up, Down, Left, Right, Home, End, PageUp, PageDown, Function, Ctrl}
+use Rattle.tx_tree.specs.declared.bind.Key.TheVariants.{Char, Function, Ctrl}
 use Rattle.tx_tree.specs.declared.kind.Kind.{Kind}
-use Rattle.tx_tree.specs.declared.kind.Kind.TheVariants.{Screen, Container, Vertical, Horizontal, Grid, VerticalScroll, Static, Label, Button, Checkbox, Input, OptionList, ProgressBar, Header, Footer, Handed}
+use Rattle.tx_tree.specs.declared.kind.Kind.TheVariants.{Checkbox, Input, OptionList, ProgressBar, Handed}
 use Rattle.tx_tree.specs.declared.kind.Private.{Private}
 use Rattle.tx_tree.specs.declared.kind.Private.TheVariants.{Plain, Cursor, On, Chosen, Bar}
 use Rattle.tx_tree.specs.declared.row.Row.{Row}
@@ -37,22 +37,8 @@ begins_capital (byte ∷ bytes) = is_ascii_uppercase byte
 
 -- whether a kind has a spelling: a handed-in name begins with a capital letter and isn't built in
 abbrev pub kind_is_spelled : Kind → Bool
-kind_is_spelled Screen = true
-kind_is_spelled Container = true
-kind_is_spelled Vertical = true
-kind_is_spelled Horizontal = true
-kind_is_spelled Grid = true
-kind_is_spelled VerticalScroll = true
-kind_is_spelled Static = true
-kind_is_spelled Label = true
-kind_is_spelled Button = true
-kind_is_spelled Checkbox = true
-kind_is_spelled Input = true
-kind_is_spelled OptionList = true
-kind_is_spelled ProgressBar = true
-kind_is_spelled Header = true
-kind_is_spelled Footer = true
 kind_is_spelled (Handed name) = begins_capital name && not (is_built_in name)
+kind_is_spelled _ = true
 
 -- whether a byte of a text has a spelling: none below 0x20 but the tab and the line feed
 abbrev pub byte_is_spelled : ℕ → Bool
@@ -65,76 +51,39 @@ no_line_feed byte = not (byte == 10)
 -- whether a key has a spelling: a character that isn't a control one, f1 to f12, ctrl+a to ctrl+z
 abbrev pub key_is_spelled : Key → Bool
 key_is_spelled (Char c) = nat_le 32 c && not (nat_le 127 c && nat_le c 159)
-key_is_spelled Enter = true
-key_is_spelled Escape = true
-key_is_spelled Tab = true
-key_is_spelled ShiftTab = true
-key_is_spelled Backspace = true
-key_is_spelled Delete = true
-key_is_spelled Up = true
-key_is_spelled Down = true
-key_is_spelled Left = true
-key_is_spelled Right = true
-key_is_spelled Home = true
-key_is_spelled End = true
-key_is_spelled PageUp = true
-key_is_spelled PageDown = true
 key_is_spelled (Function n) = nat_le 1 n && nat_le n 12
 key_is_spelled (Ctrl byte) = nat_le 97 byte && nat_le byte 122
+key_is_spelled _ = true
 
--- whether a private state is of the form that its kind has, with a total from 1 to 1,000,000
+-- whether a private state is of one form
 abbrev pub is_plain : Private → Bool
 is_plain Plain = true
-is_plain (Cursor place) = false
-is_plain (On b) = false
-is_plain (Chosen line) = false
-is_plain (Bar done total) = false
+is_plain _ = false
 
 abbrev pub is_cursor : Private → Bool
-is_cursor Plain = false
 is_cursor (Cursor place) = true
-is_cursor (On b) = false
-is_cursor (Chosen line) = false
-is_cursor (Bar done total) = false
+is_cursor _ = false
 
 abbrev pub is_on : Private → Bool
-is_on Plain = false
-is_on (Cursor place) = false
 is_on (On b) = true
-is_on (Chosen line) = false
-is_on (Bar done total) = false
+is_on _ = false
 
 abbrev pub is_chosen : Private → Bool
-is_chosen Plain = false
-is_chosen (Cursor place) = false
-is_chosen (On b) = false
 is_chosen (Chosen line) = true
-is_chosen (Bar done total) = false
+is_chosen _ = false
 
+-- with a total from 1 to 1,000,000
 abbrev pub is_bar : Private → Bool
-is_bar Plain = false
-is_bar (Cursor place) = false
-is_bar (On b) = false
-is_bar (Chosen line) = false
 is_bar (Bar done total) = nat_le 1 total && nat_le total 1000000
+is_bar _ = false
 
+-- whether a private state is of the form that the kind has
 abbrev pub private_is_spelled : Kind → Private → Bool
-private_is_spelled Screen private = is_plain private
-private_is_spelled Container private = is_plain private
-private_is_spelled Vertical private = is_plain private
-private_is_spelled Horizontal private = is_plain private
-private_is_spelled Grid private = is_plain private
-private_is_spelled VerticalScroll private = is_plain private
-private_is_spelled Static private = is_plain private
-private_is_spelled Label private = is_plain private
-private_is_spelled Button private = is_plain private
 private_is_spelled Checkbox private = is_on private
 private_is_spelled Input private = is_cursor private
 private_is_spelled OptionList private = is_chosen private
 private_is_spelled ProgressBar private = is_bar private
-private_is_spelled Header private = is_plain private
-private_is_spelled Footer private = is_plain private
-private_is_spelled (Handed name) private = is_plain private
+private_is_spelled _ private = is_plain private
 
 -- whether a row has a spelling
 abbrev pub is_spelled : Row → Bool

@@ -1,7 +1,7 @@
 //! Kinds of rows, and the state that a row keeps for its kind.
 
 ghost use Rattle.std.specs.Prelude.{◌≡◌};
-ghost use Rattle.tx_tree.specs.Kind.{holds_children, is_screen};
+ghost use Rattle.tx_tree.specs.Kind.{holds_children, is_screen, kind_name, fresh};
 
 use crate::Name;
 
@@ -39,6 +39,30 @@ impl Kind {
         }
     }
 
+    /// The name of the kind, as it stands in a tree file.
+    pub fn name(&self) -> &str
+        ensures { result.now ≡ kind_name self.now }
+    {
+        match self {
+            Kind::Screen => "Screen",
+            Kind::Container => "Container",
+            Kind::Vertical => "Vertical",
+            Kind::Horizontal => "Horizontal",
+            Kind::Grid => "Grid",
+            Kind::VerticalScroll => "VerticalScroll",
+            Kind::Static => "Static",
+            Kind::Label => "Label",
+            Kind::Button => "Button",
+            Kind::Checkbox => "Checkbox",
+            Kind::Input => "Input",
+            Kind::OptionList => "OptionList",
+            Kind::ProgressBar => "ProgressBar",
+            Kind::Header => "Header",
+            Kind::Footer => "Footer",
+            Kind::Handed(name) => name.as_str(),
+        }
+    }
+
     // Whether this is the Screen.
     pub(crate) fn is_screen(self) -> bool
         ensures { result ≡ is_screen self }
@@ -59,4 +83,24 @@ pub enum Private {
     Chosen(u32),
     /// How far a ProgressBar is.
     Bar { done: u32, total: u32 },
+}
+
+impl Private {
+    /// The state that a row of this kind begins with: of an Input the cursor at the end of its
+    /// text, which has `size` bytes; a Checkbox is off, of an OptionList the first line is chosen,
+    /// and a ProgressBar is at 0 of 100.
+    pub fn fresh(kind: Kind, size: u32) -> Private
+        ensures { result ≡ fresh kind size }
+    {
+        match kind {
+            Kind::Input => Private::Cursor(size),
+            Kind::Checkbox => Private::On(false),
+            Kind::OptionList => Private::Chosen(0),
+            Kind::ProgressBar => Private::Bar {
+                done: 0,
+                total: 100,
+            },
+            _ => Private::Plain,
+        }
+    }
 }

@@ -8,6 +8,7 @@ mod bind;
 mod classes;
 mod fault;
 mod kind;
+pub mod laws;
 mod lists;
 mod name;
 mod row;

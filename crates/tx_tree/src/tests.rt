@@ -1,5 +1,7 @@
 //! Tests of trees.
 
+ghost use Rattle.std.specs.Prelude.{◌≡◌, IfOk};
+
 use crate::{
     Action, Bind, Binds, Jump, Key, Kind, Name, Names, NewRow, NodeId, Private, Text, Tree,
     TreeFault,
@@ -7,8 +9,14 @@ use crate::{
 use std::alloc::{AllocError, Global};
 use std::test::Fail;
 
+fn expect(fine: bool, what: &'static str) -> Result<(), Fail> {
+    if fine { Ok(()) } else { Err(Fail::from(what)) }
+}
+
 // A row of a kind, with nothing else.
-fn bare(alloc: Global, kind: Kind) -> Result<NewRow, AllocError> {
+fn bare(alloc: Global, kind: Kind) -> Result<NewRow, AllocError>
+    ensures { IfOk result (λ row. row.kind ≡ kind) }
+{
     Ok(NewRow {
         kind,
         id: None,
@@ -30,250 +38,344 @@ fn named(alloc: Global, kind: Kind, id: &str) -> Result<NewRow, AllocError> {
 
 // The tree of a Screen alone.
 fn screen(alloc: Global) -> Result<Tree, AllocError> {
-    let row = NewRow {
-        kind: Kind::Screen,
-        id: None,
-        classes: Names::of(Vec::new(alloc)),
-        disabled: false,
-        text: Text::of(alloc, "")?,
-        inline: Text::of(alloc, "")?,
-        binds: Binds::of(Vec::new(alloc)),
-        private: Private::Plain,
-    };
-    Tree::of_screen(alloc, row)
+    Tree::of_screen(alloc, bare(alloc, Kind::Screen)?)
 }
 
-// Each row's number and depth, as `next` goes.
-fn shape(alloc: Global, tree: &Tree) -> Result<Vec<(u32, u32)>, AllocError> {
-    let mut shape = Vec::new(alloc);
+// A Screen with two Statics, `a` and `b`.
+fn two_statics(alloc: Global) -> Result<Tree, Fail> {
+    let mut tree = screen(alloc)?;
+    tree.mount(NodeId(1), named(alloc, Kind::Static, "a")?)?;
+    tree.mount(NodeId(1), named(alloc, Kind::Static, "b")?)?;
+    Ok(tree)
+}
+
+// What a test compares of a row.
+#[derive(Clone, Copy, PartialEq)]
+struct Seen {
+    number: u32,
+    depth: u32,
+    disabled: bool,
+}
+
+fn plain_row(number: u32, depth: u32) -> Seen {
+    Seen {
+        number,
+        depth,
+        disabled: false,
+    }
+}
+
+// The rows as `next` goes from the first.
+fn walk(alloc: Global, tree: &Tree) -> Result<Vec<Seen>, AllocError> {
+    let mut rows = Vec::new(alloc);
     let mut here = Some(tree.root());
     for _ in 0..1000 {
         let Some(node) = here else {
             break;
         };
         if let Some(row) = tree.row(node) {
-            shape.push((row.node.0, row.depth))?;
+            rows.push(Seen {
+                number: row.node.0,
+                depth: row.depth,
+                disabled: row.disabled,
+            })?;
         }
         here = tree.next(node);
     }
-    Ok(shape)
+    Ok(rows)
+}
+
+fn is_shaped(alloc: Global, tree: &Tree, wanted: &[Seen]) -> Result<bool, AllocError> {
+    Ok(walk(alloc, tree)?.as_slice() == wanted)
 }
 
 #[test]
-fn edits_of_a_small_tree(rt: HostRuntime) -> Result<(), Fail> {
+fn two_statics_change_places(rt: HostRuntime) -> Result<(), Fail> {
     let alloc = rt.alloc();
-    let mut tree = screen(alloc)?;
-    let root = tree.root();
-    assert_eq!(rt; root, NodeId(1));
-    assert_eq!(rt;
-        tree.mount(root, named(alloc, Kind::Static, "a")?),
-        Ok(NodeId(2))
-    );
-    assert_eq!(rt;
-        tree.mount(root, named(alloc, Kind::Static, "b")?),
-        Ok(NodeId(3))
-    );
-    assert_eq!(rt;
-        tree.mount(root, named(alloc, Kind::Static, "a")?),
-        Err(TreeFault::DuplicateId)
-    );
-    assert_eq!(rt;
-        tree.mount(NodeId(2), named(alloc, Kind::Static, "a")?),
-        Err(TreeFault::Leaf)
-    );
-    assert_eq!(rt; tree.made(), 3);
-    assert_eq!(rt; tree.move_before(NodeId(3), NodeId(2)), Ok(()));
-    assert_eq!(rt;
-        shape(alloc, &tree)?.as_slice(),
-        [(1, 0), (3, 1), (2, 1)].as_slice()
-    );
-    assert_eq!(rt;
-        tree.move_before(NodeId(3), NodeId(1)),
-        Err(TreeFault::NotSiblings)
-    );
-    assert_eq!(rt;
-        tree.move_before(NodeId(3), NodeId(3)),
-        Err(TreeFault::NotSiblings)
-    );
-    assert_eq!(rt; tree.remove(NodeId(1)), Err(TreeFault::Root));
-    assert_eq!(rt;
-        tree.set_inline(NodeId(9), Text::of(alloc, "")?),
-        Err(TreeFault::NoNode)
-    );
-    assert_eq!(rt; tree.children(NodeId(9)).err(), Some(TreeFault::NoNode));
-    assert_eq!(rt;
-        tree.children(NodeId(1))?.as_slice(),
-        [NodeId(3), NodeId(2)].as_slice()
-    );
-    assert_eq!(rt; tree.reserve_classes(NodeId(9), 1), Err(TreeFault::NoNode));
-    assert_eq!(rt; tree.parent(NodeId(2)), Some(NodeId(1)));
-    assert_eq!(rt; tree.parent(NodeId(1)), None);
+    let mut tree = two_statics(alloc)?;
+    expect(tree.root() == NodeId(1), "the root")?;
+    expect(tree.made() == 3, "the nodes made")?;
+    tree.move_before(NodeId(3), NodeId(2))?;
+    let moved = [plain_row(1, 0), plain_row(3, 1), plain_row(2, 1)];
+    expect(is_shaped(alloc, &tree, &moved)?, "the rows")?;
+    let children = tree.children(NodeId(1))?;
+    let wanted = [NodeId(3), NodeId(2)];
+    expect(children.as_slice() == wanted.as_slice(), "the children")?;
+    expect(tree.parent(NodeId(2)) == Some(NodeId(1)), "a parent")?;
+    expect(tree.parent(NodeId(1)).is_none(), "no parent")?;
+    expect(tree.next(NodeId(2)).is_none(), "no next row")?;
     let rows = tree.rows()?;
-    assert_eq!(rt; rows.len(), 3);
-    assert_eq!(rt; tree.remove(NodeId(3)), Ok(()));
-    assert_eq!(rt;
-        shape(alloc, &tree)?.as_slice(),
-        [(1, 0), (2, 1)].as_slice()
-    );
-    assert_eq!(rt; tree.remove(NodeId(3)), Err(TreeFault::NoNode));
-    assert_eq!(rt;
-        tree.mount(root, named(alloc, Kind::Static, "b")?),
-        Ok(NodeId(4))
-    );
-    Ok(())
+    expect(rows.len() == 3, "the number of rows")?;
+    let second = rows.get(1).ok_or("a row")?;
+    expect(second.id == Name::of("b"), "the id of the second row")
 }
 
 #[test]
-fn refusals_in_their_order(rt: HostRuntime) -> Result<(), Fail> {
+fn a_number_is_used_once(rt: HostRuntime) -> Result<(), Fail> {
     let alloc = rt.alloc();
+    let mut tree = two_statics(alloc)?;
+    tree.remove(NodeId(3))?;
+    let left = [plain_row(1, 0), plain_row(2, 1)];
+    expect(is_shaped(alloc, &tree, &left)?, "the rows")?;
+    expect(tree.row(NodeId(3)).is_none(), "no row")?;
+    expect(
+        tree.remove(NodeId(3)) == Err(TreeFault::NoNode),
+        "removed twice",
+    )?;
+    let again = tree.mount(NodeId(1), named(alloc, Kind::Static, "b")?)?;
+    expect(again == NodeId(4), "a new number for an old id")
+}
+
+#[test]
+fn calls_on_small_trees_are_refused(rt: HostRuntime) -> Result<(), Fail> {
+    let alloc = rt.alloc();
+    let mut tree = two_statics(alloc)?;
+    for (node, before, fault) in [
+        (3, 1, TreeFault::NotSiblings),
+        (1, 1, TreeFault::NotSiblings),
+        (3, 3, TreeFault::NotSiblings),
+        (9, 9, TreeFault::NoNode),
+        (3, 9, TreeFault::NoNode),
+        (0, 3, TreeFault::NoNode),
+    ] {
+        let moved = tree.move_before(NodeId(node), NodeId(before));
+        expect(moved == Err(fault), "a move")?;
+    }
+    expect(
+        tree.remove(NodeId(1)) == Err(TreeFault::Root),
+        "the root goes",
+    )?;
+    expect(
+        tree.remove(NodeId(0)) == Err(TreeFault::NoNode),
+        "nothing goes",
+    )?;
+    expect(
+        tree.children(NodeId(9)).err() == Some(TreeFault::NoNode),
+        "no children",
+    )?;
+    let rows = [plain_row(1, 0), plain_row(2, 1), plain_row(3, 1)];
+    expect(is_shaped(alloc, &tree, &rows)?, "the rows stay")
+}
+
+#[test]
+fn changes_of_no_row_are_refused(rt: HostRuntime) -> Result<(), Fail> {
+    let alloc = rt.alloc();
+    let mut tree = two_statics(alloc)?;
+    let red = Name::of("red").ok_or("a name")?;
+    let nine = NodeId(9);
+    let gone = Err(TreeFault::NoNode);
+    let text = Text::of(alloc, "")?;
+    expect(tree.set_text(nine, text.copy()?) == gone, "text")?;
+    expect(tree.set_inline(nine, text.copy()?) == gone, "inline text")?;
+    expect(
+        tree.set_state(nine, text, Private::Plain) == gone,
+        "text and state",
+    )?;
+    expect(tree.set_disabled(nine, true) == gone, "disabled")?;
+    expect(tree.reserve_classes(nine, 1) == gone, "room")?;
+    expect(
+        tree.add_class(nine, red) == Err(TreeFault::NoNode),
+        "a class more",
+    )?;
+    expect(
+        tree.remove_class(nine, &red) == Err(TreeFault::NoNode),
+        "a class less",
+    )
+}
+
+// Whether `mount` and `may_mount` refuse a row of this kind and id so.
+fn mount_is_refused(
+    alloc: Global,
+    tree: &mut Tree,
+    parent: NodeId,
+    kind: Kind,
+    id: &str,
+    fault: TreeFault,
+) -> Result<bool, Fail> {
+    let row = named(alloc, kind, id)?;
+    let judged = tree.may_mount(parent, &row) == Err(fault);
+    Ok(judged && tree.mount(parent, row) == Err(fault))
+}
+
+// A Screen with the Label `a`, and a chain of Containers from node 3 at depth 1 down to node 65 at
+// depth 63.
+fn chain(alloc: Global) -> Result<Tree, Fail> {
     let mut tree = screen(alloc)?;
     let mut parent = tree.root();
-    // A chain of containers down to the depth 63, and a leaf with an id.
     tree.mount(parent, named(alloc, Kind::Label, "a")?)?;
     for _ in 0..63 {
         parent = tree.mount(parent, bare(alloc, Kind::Container)?)?;
     }
-    assert_eq!(rt; tree.made(), 65);
-    let cases = [
-        (NodeId(99), Kind::Screen, "a", TreeFault::NoNode),
-        (NodeId(2), Kind::Static, "a", TreeFault::Leaf),
-        (NodeId(65), Kind::Screen, "a", TreeFault::Leaf),
-        (NodeId(65), Kind::Static, "a", TreeFault::TooDeep),
-        (NodeId(64), Kind::Static, "a", TreeFault::DuplicateId),
-    ];
-    for (node, kind, id, fault) in cases {
-        let row = named(alloc, kind, id)?;
-        assert_eq!(rt; tree.may_mount(node, &row), Err(fault));
-        assert_eq!(rt; tree.mount(node, row), Err(fault));
+    Ok(tree)
+}
+
+#[test]
+fn the_first_refusal_of_a_mount_comes(rt: HostRuntime) -> Result<(), Fail> {
+    let alloc = rt.alloc();
+    let mut tree = chain(alloc)?;
+    for (parent, kind, id, fault) in [
+        (99, Kind::Screen, "a", TreeFault::NoNode),
+        (0, Kind::Static, "b", TreeFault::NoNode),
+        (2, Kind::Static, "a", TreeFault::Leaf),
+        (65, Kind::Screen, "a", TreeFault::Leaf),
+        (65, Kind::Static, "a", TreeFault::TooDeep),
+        (64, Kind::Static, "a", TreeFault::DuplicateId),
+        (1, Kind::Static, "a", TreeFault::DuplicateId),
+    ] {
+        let parent = NodeId(parent);
+        let refused = mount_is_refused(alloc, &mut tree, parent, kind, id, fault)?;
+        expect(refused, "a mount")?;
     }
+    expect(tree.made() == 65, "nothing is made")?;
     let row = named(alloc, Kind::Static, "b")?;
-    assert_eq!(rt; tree.may_mount(NodeId(64), &row), Ok(()));
-    assert_eq!(rt;
-        tree.move_before(NodeId(99), NodeId(99)),
-        Err(TreeFault::NoNode)
-    );
-    assert_eq!(rt;
-        tree.move_before(NodeId(2), NodeId(99)),
-        Err(TreeFault::NoNode)
-    );
-    assert_eq!(rt; tree.remove(NodeId(3)), Ok(()));
-    assert_eq!(rt;
-        shape(alloc, &tree)?.as_slice(),
-        [(1, 0), (2, 1)].as_slice()
-    );
-    // No more than 65,536 nodes are ever made.
+    expect(
+        tree.may_mount(NodeId(64), &row) == Ok(()),
+        "the deepest row",
+    )?;
+    expect(
+        tree.mount(NodeId(64), row) == Ok(NodeId(66)),
+        "it is mounted",
+    )
+}
+
+#[test]
+fn a_tree_makes_65536_nodes(rt: HostRuntime) -> Result<(), Fail> {
+    let alloc = rt.alloc();
+    let mut tree = chain(alloc)?;
     let root = tree.root();
     for _ in 65..65_536 {
         let node = tree.mount(root, bare(alloc, Kind::Static)?)?;
         tree.remove(node)?;
     }
-    assert_eq!(rt; tree.made(), 65_536);
-    assert_eq!(rt;
-        tree.mount(root, named(alloc, Kind::Static, "a")?),
-        Err(TreeFault::TooMany)
-    );
+    expect(tree.made() == 65_536, "all are made")?;
+    for (parent, kind, id, fault) in [
+        (99, Kind::Static, "a", TreeFault::NoNode),
+        (2, Kind::Static, "a", TreeFault::Leaf),
+        (65, Kind::Static, "a", TreeFault::TooDeep),
+        (64, Kind::Static, "a", TreeFault::TooMany),
+        (64, Kind::Static, "b", TreeFault::TooMany),
+    ] {
+        let parent = NodeId(parent);
+        let refused = mount_is_refused(alloc, &mut tree, parent, kind, id, fault)?;
+        expect(refused, "a mount")?;
+    }
     Ok(())
 }
 
 #[test]
-fn changes_of_one_row(rt: HostRuntime) -> Result<(), Fail> {
+fn texts_and_states_change(rt: HostRuntime) -> Result<(), Fail> {
     let alloc = rt.alloc();
-    let mut tree = screen(alloc)?;
-    let root = tree.root();
-    let mut input = bare(alloc, Kind::Input)?;
-    input.private = Private::Cursor(0);
-    let node = tree.mount(root, input)?;
-    let red = Name::of("red").ok_or("a name")?;
-    let blue = Name::of("blue").ok_or("a name")?;
-    tree.set_text(node, Text::of(alloc, "a\u{e4}")?)?;
+    let mut tree = two_statics(alloc)?;
+    let node = NodeId(3);
+    for (before, after) in [
+        (Private::Plain, Private::Plain),
+        (Private::Cursor(0), Private::Cursor(3)),
+        (Private::On(true), Private::On(true)),
+        (Private::Chosen(7), Private::Chosen(0)),
+        (
+            Private::Bar { done: 1, total: 2 },
+            Private::Bar { done: 1, total: 2 },
+        ),
+    ] {
+        tree.set_state(node, Text::of(alloc, "b")?, before)?;
+        tree.set_text(node, Text::of(alloc, "a\u{e4}")?)?;
+        let row = tree.row(node).ok_or("a row")?;
+        expect(row.text.as_str() == "a\u{e4}", "the text")?;
+        expect(row.private == after, "the state")?;
+    }
     tree.set_inline(node, Text::of(alloc, "width: 1;")?)?;
     tree.set_disabled(node, true)?;
-    tree.reserve_classes(node, 2)?;
-    assert_eq!(rt; tree.add_class(node, red), Ok(true));
-    assert_eq!(rt; tree.add_class(node, blue), Ok(true));
-    assert_eq!(rt; tree.add_class(node, red), Ok(false));
-    let row = tree.row(node).ok_or("a row")?;
-    assert_eq!(rt; row.text.as_str(), "a\u{e4}");
-    assert_eq!(rt; row.private, Private::Cursor(3));
-    assert_eq!(rt; row.inline.as_str(), "width: 1;");
-    assert!(rt; row.disabled);
-    assert_eq!(rt; row.classes.as_slice(), [red, blue].as_slice());
-    assert_eq!(rt; tree.remove_class(node, &red), Ok(true));
-    assert_eq!(rt; tree.remove_class(node, &red), Ok(false));
-    tree.set_state(node, Text::of(alloc, "b")?, Private::On(true))?;
-    let row = tree.row(node).ok_or("a row")?;
-    assert_eq!(rt; row.classes.as_slice(), [blue].as_slice());
-    assert_eq!(rt; row.private, Private::On(true));
-    let copy = row.copy()?;
-    assert_eq!(rt; copy.text.as_str(), "b");
-    assert_eq!(rt; copy.classes.as_slice(), [blue].as_slice());
-    Ok(())
+    let row = tree.row(node).ok_or("a row")?.copy()?;
+    expect(row.inline.as_str() == "width: 1;", "the inline text")?;
+    expect(row.disabled, "disabled")?;
+    expect(row.id == Name::of("b") && row.depth == 1, "all else stays")
 }
 
-// A plain list of numbers and depths with a new row behind the subtree of `parent`.
+#[test]
+fn classes_come_and_go(rt: HostRuntime) -> Result<(), Fail> {
+    let alloc = rt.alloc();
+    let mut tree = screen(alloc)?;
+    let red = Name::of("red").ok_or("a name")?;
+    let blue = Name::of("blue").ok_or("a name")?;
+    let mut row = bare(alloc, Kind::Static)?;
+    row.classes = Names::of(vec![in alloc; red, blue, red]?);
+    let node = tree.mount(NodeId(1), row.copy()?)?;
+    expect(tree.remove_class(node, &red) == Ok(true), "both go")?;
+    expect(tree.remove_class(node, &red) == Ok(false), "none is left")?;
+    tree.reserve_classes(node, 2)?;
+    expect(tree.add_class(node, red) == Ok(true), "one comes")?;
+    expect(tree.add_class(node, red) == Ok(false), "it is there")?;
+    let classes = tree.row(node).ok_or("a row")?.classes.copy()?;
+    expect(
+        classes.as_slice() == [blue, red].as_slice(),
+        "the classes in order",
+    )
+}
+
+// A plain list of rows with a new one behind the subtree of `parent`.
 fn list_mounted(
     alloc: Global,
-    list: &[(u32, u32)],
+    list: &[Seen],
     parent: u32,
-    n: u32,
-) -> Result<Vec<(u32, u32)>, AllocError> {
+    number: u32,
+) -> Result<Vec<Seen>, AllocError> {
     let mut after = Vec::new(alloc);
     let mut open = None;
-    for (number, depth) in list {
+    for row in list {
         if let Some(above) = open
-            && *depth <= above
+            && row.depth <= above
         {
-            after.push((n, above.saturating_add(1)))?;
+            after.push(plain_row(number, above.saturating_add(1)))?;
             open = None;
         }
-        if *number == parent {
-            open = Some(*depth);
+        if row.number == parent {
+            open = Some(row.depth);
         }
-        after.push((*number, *depth))?;
+        after.push(*row)?;
     }
     if let Some(above) = open {
-        after.push((n, above.saturating_add(1)))?;
+        after.push(plain_row(number, above.saturating_add(1)))?;
     }
     Ok(after)
 }
 
-// A plain list parted into the subtree of `n` and the rest.
+// A plain list parted into the subtree of a row and the rest.
 fn list_parted(
     alloc: Global,
-    list: &[(u32, u32)],
-    n: u32,
-) -> Result<(Vec<(u32, u32)>, Vec<(u32, u32)>), AllocError> {
+    list: &[Seen],
+    number: u32,
+) -> Result<(Vec<Seen>, Vec<Seen>), AllocError> {
     let mut subtree = Vec::new(alloc);
     let mut rest = Vec::new(alloc);
     let mut open = None;
-    for (number, depth) in list {
+    for row in list {
         if let Some(above) = open
-            && *depth <= above
+            && row.depth <= above
         {
             open = None;
         }
-        if *number == n {
-            open = Some(*depth);
+        if row.number == number {
+            open = Some(row.depth);
         }
         match open {
-            Some(_) => subtree.push((*number, *depth))?,
-            None => rest.push((*number, *depth))?,
+            Some(_) => subtree.push(*row)?,
+            None => rest.push(*row)?,
         }
     }
     Ok((subtree, rest))
 }
 
-// A plain list with the subtree of `n` directly before `other`.
+// A plain list with the subtree of a row directly before another.
 fn list_moved(
     alloc: Global,
-    list: &[(u32, u32)],
-    n: u32,
+    list: &[Seen],
+    number: u32,
     other: u32,
-) -> Result<Vec<(u32, u32)>, AllocError> {
-    let (subtree, rest) = list_parted(alloc, list, n)?;
+) -> Result<Vec<Seen>, AllocError> {
+    let (subtree, rest) = list_parted(alloc, list, number)?;
     let mut after = Vec::new(alloc);
     for row in &rest {
-        if row.0 == other {
+        if row.number == other {
             after.extend_from_slice(subtree.as_slice())?;
         }
         after.push(*row)?;
@@ -281,54 +383,99 @@ fn list_moved(
     Ok(after)
 }
 
+// A plain list with one row disabled.
+fn list_disabled(list: &mut [Seen], number: u32) {
+    for row in list {
+        if row.number == number {
+            row.disabled = true;
+        }
+    }
+}
+
 // The number of a row of a plain list, or else that of the Screen.
-fn picked(list: &[(u32, u32)], at: u32) -> NodeId {
+fn picked(list: &[Seen], at: u32) -> NodeId {
     let place = at as usize % list.len().max(1);
-    NodeId(list.get(place).map_or(1, |row| row.0))
+    NodeId(list.get(place).map_or(1, |row| row.number))
+}
+
+// A tree, a plain list of what its rows should be, and how many of the moves were no refusals.
+#[derive(Drop)]
+struct Beside {
+    tree: Tree,
+    list: Vec<Seen>,
+    moves: u32,
+}
+
+impl Beside {
+    fn mount(&mut self, alloc: Global, parent: NodeId) -> Result<(), Fail> {
+        let node = self.tree.mount(parent, bare(alloc, Kind::Container)?)?;
+        self.list = list_mounted(alloc, self.list.as_slice(), parent.0, node.0)?;
+        Ok(())
+    }
+
+    fn remove(&mut self, alloc: Global, node: NodeId) -> Result<(), Fail> {
+        if self.tree.remove(node).is_ok() {
+            self.list = list_parted(alloc, self.list.as_slice(), node.0)?.1;
+            return Ok(());
+        }
+        expect(node == self.tree.root(), "only the root stays")
+    }
+
+    fn disable(&mut self, node: NodeId) -> Result<(), Fail> {
+        self.tree.set_disabled(node, true)?;
+        list_disabled(self.list.as_mut_slice(), node.0);
+        Ok(())
+    }
+
+    fn move_before(&mut self, alloc: Global, node: NodeId, other: NodeId) -> Result<(), Fail> {
+        if self.tree.move_before(node, other).is_ok() {
+            self.list = list_moved(alloc, self.list.as_slice(), node.0, other.0)?;
+            self.moves = self.moves.saturating_add(1);
+            return Ok(());
+        }
+        let apart = self.tree.parent(node) != self.tree.parent(other);
+        expect(node == other || apart, "siblings move")
+    }
+
+    // One edit, by its number and two rows.
+    fn step(&mut self, alloc: Global, step: u32, first: NodeId, other: NodeId) -> Result<(), Fail> {
+        match step % 8 {
+            0 => self.mount(alloc, first),
+            1 | 2 => self.mount(alloc, NodeId(1)),
+            3 => self.remove(alloc, first),
+            4 => self.disable(first),
+            _ => self.move_before(alloc, first, other),
+        }
+    }
 }
 
 #[test]
 fn edits_beside_a_plain_list(rt: HostRuntime) -> Result<(), Fail> {
     let alloc = rt.alloc();
-    let mut tree = screen(alloc)?;
-    let mut list = vec![in alloc; (1, 0)]?;
+    let tree = screen(alloc)?;
+    let list = vec![in alloc; plain_row(1, 0)]?;
+    let mut beside = Beside {
+        tree,
+        list,
+        moves: 0,
+    };
     let mut seed = 7u32;
-    let mut moves = 0u32;
-    for step in 0..120u32 {
+    for step in 0..120 {
         seed = seed.wrapping_mul(1_103_515_245).wrapping_add(12_345);
-        let first = picked(list.as_slice(), seed / 65_536);
-        let second = picked(list.as_slice(), seed / 1024);
-        if step % 8 < 3 {
-            let first = if step % 8 == 0 { first } else { tree.root() };
-            let node = tree.mount(first, bare(alloc, Kind::Container)?)?;
-            list = list_mounted(alloc, list.as_slice(), first.0, node.0)?;
-        } else if step % 8 == 3 {
-            if tree.remove(first).is_ok() {
-                list = list_parted(alloc, list.as_slice(), first.0)?.1;
-            } else {
-                assert_eq!(rt; first, tree.root());
-            }
-        } else if tree.move_before(first, second).is_ok() {
-            list = list_moved(alloc, list.as_slice(), first.0, second.0)?;
-            moves = moves.saturating_add(1);
-        } else {
-            assert!(rt; first == second || tree.parent(first) != tree.parent(second));
-        }
-        assert_eq!(rt;
-            shape(alloc, &tree)?.as_slice(),
-            list.as_slice(),
-            "after step {step}"
-        );
+        let first = picked(beside.list.as_slice(), seed / 65_536);
+        let other = picked(beside.list.as_slice(), seed / 1024);
+        beside.step(alloc, step, first, other)?;
+        let same = is_shaped(alloc, &beside.tree, beside.list.as_slice())?;
+        expect(same, "the rows after a step")?;
     }
-    assert!(rt; moves > 5, "{moves} moves");
-    Ok(())
+    expect(beside.moves > 5, "some rows moved")
 }
 
 #[test]
-fn names_and_lists(rt: HostRuntime) -> Result<(), Fail> {
+fn names_are_1_to_64_bytes(rt: HostRuntime) -> Result<(), Fail> {
     let alloc = rt.alloc();
     let long = "a123456789b123456789c123456789d123456789e123456789f123456789g123";
-    let cases = [
+    for (text, good) in [
         ("a", true),
         ("_", true),
         ("a-b_9", true),
@@ -338,120 +485,158 @@ fn names_and_lists(rt: HostRuntime) -> Result<(), Fail> {
         ("-a", false),
         ("a b", false),
         ("\u{e4}", false),
-    ];
-    for (text, good) in cases {
-        assert_eq!(rt; Name::of(text).is_some(), good, "{text}");
+    ] {
+        expect(Name::of(text).is_some() == good, "a name")?;
     }
     let mut longer = String::from_str(alloc, long)?;
     longer.push('4')?;
-    assert!(rt; Name::of(longer.as_str()).is_none());
-    let a = Name::of("ab").ok_or("a name")?;
-    let b = Name::of("b").ok_or("a name")?;
-    assert_eq!(rt; a.as_str(), "ab");
-    assert!(rt; a < b);
+    expect(Name::of(longer.as_str()).is_none(), "65 bytes")?;
+    let first = Name::of("ab").ok_or("a name")?;
+    let second = Name::of("b").ok_or("a name")?;
+    expect(first.as_str() == "ab", "its text")?;
+    expect(first < second && first != second, "the order of names")
+}
+
+#[test]
+fn lists_and_rows_are_copied(rt: HostRuntime) -> Result<(), Fail> {
+    let alloc = rt.alloc();
+    let first = Name::of("ab").ok_or("a name")?;
+    let second = Name::of("b").ok_or("a name")?;
     let bind = Bind {
         key: Key::Char('x'),
         action: Action::Scroll(Jump::End),
         priority: true,
     };
-    let names = Names::of(vec![in alloc; a, b]?).copy()?;
-    assert_eq!(rt; names.as_slice(), [a, b].as_slice());
+    let names = Names::of(vec![in alloc; first, second]?).copy()?;
+    expect(names.as_slice() == [first, second].as_slice(), "names")?;
     let binds = Binds::of(vec![in alloc; bind]?).copy()?;
-    assert_eq!(rt; binds.as_slice(), [bind].as_slice());
-    let row = named(alloc, Kind::Handed(a), "b")?.copy()?;
-    assert_eq!(rt; row.id, Some(b));
-    assert_eq!(rt; row.kind, Kind::Handed(a));
-    Ok(())
-}
-
-// A Static with one part of its own, by a number.
-fn odd_row(alloc: Global, part: u32) -> Result<NewRow, AllocError> {
-    let mut row = bare(alloc, Kind::Static)?;
-    match part {
-        1 => row.text = Text::of(alloc, "a\tb\nc")?,
-        2 => row.text = Text::of(alloc, "a\rb")?,
-        3 => row.inline = Text::of(alloc, "a\nb")?,
-        4 => row.private = Private::On(false),
-        5 => row.kind = Kind::Checkbox,
-        _ => {}
-    }
-    Ok(row)
-}
-
-// A Static with a binding on a key.
-fn bound(alloc: Global, key: Key) -> Result<NewRow, AllocError> {
-    let mut row = bare(alloc, Kind::Static)?;
-    let bind = Bind {
-        key,
-        action: Action::FocusNext,
-        priority: false,
-    };
-    row.binds = Binds::of(vec![in alloc; bind]?);
-    Ok(row)
+    expect(binds.as_slice() == [bind].as_slice(), "bindings")?;
+    let row = named(alloc, Kind::Handed(first), "b")?.copy()?;
+    expect(row.id == Some(second), "an id")?;
+    expect(row.kind == Kind::Handed(first), "a kind")
 }
 
 // Whether a tree with one such row is spelled.
 fn spelled_with(alloc: Global, row: NewRow) -> Result<bool, Fail> {
     let mut tree = screen(alloc)?;
-    let root = tree.root();
-    tree.mount(root, row)?;
+    tree.mount(NodeId(1), row)?;
     Ok(tree.spelled())
 }
 
 #[test]
-fn spelled_rows(rt: HostRuntime) -> Result<(), Fail> {
+fn spelled_keys(rt: HostRuntime) -> Result<(), Fail> {
     let alloc = rt.alloc();
-    for (part, good) in [
-        (0, true),
-        (1, true),
-        (2, false),
-        (3, false),
-        (4, false),
-        (5, false),
-    ] {
-        assert_eq!(rt;
-            spelled_with(alloc, odd_row(alloc, part)?)?,
-            good,
-            "part {part}"
-        );
-    }
-    let keys = [
+    for (key, good) in [
         (Key::Char(' '), true),
         (Key::Char('\u{1f}'), false),
+        (Key::Char('~'), true),
         (Key::Char('\u{7f}'), false),
         (Key::Char('\u{9f}'), false),
         (Key::Char('\u{a0}'), true),
+        (Key::Function(0), false),
+        (Key::Function(1), true),
         (Key::Function(12), true),
         (Key::Function(13), false),
-        (Key::Function(0), false),
+        (Key::Ctrl(b'`'), false),
+        (Key::Ctrl(b'a'), true),
         (Key::Ctrl(b'z'), true),
         (Key::Ctrl(b'{'), false),
         (Key::ShiftTab, true),
-    ];
-    for (key, good) in keys {
-        assert_eq!(rt; spelled_with(alloc, bound(alloc, key)?)?, good, "{key:?}");
-    }
-    for (kind, good) in [
-        ("Meter", true),
-        ("meter", false),
-        ("Footer", false),
-        ("Screens", true),
     ] {
-        let name = Name::of(kind).ok_or("a name")?;
-        assert_eq!(rt;
-            spelled_with(alloc, bare(alloc, Kind::Handed(name))?)?,
-            good,
-            "{kind}"
-        );
+        let bind = Bind {
+            key,
+            action: Action::FocusNext,
+            priority: false,
+        };
+        let mut row = bare(alloc, Kind::Static)?;
+        row.binds = Binds::of(vec![in alloc; bind]?);
+        expect(spelled_with(alloc, row)? == good, "a key")?;
     }
-    for (total, good) in [(0, false), (1, true), (1_000_000, true), (1_000_001, false)] {
-        let mut row = bare(alloc, Kind::ProgressBar)?;
-        row.private = Private::Bar { done: 5, total };
-        assert_eq!(rt; spelled_with(alloc, row)?, good, "total {total}");
+    Ok(())
+}
+
+#[test]
+fn spelled_texts(rt: HostRuntime) -> Result<(), Fail> {
+    let alloc = rt.alloc();
+    for (text, inline, good) in [
+        ("", "", true),
+        ("a\tb\nc\u{7f}\u{e4}\"\\", "{ } \t\r", true),
+        ("a\rb", "", false),
+        ("\u{0}", "", false),
+        ("", "a\nb", false),
+    ] {
+        let mut row = bare(alloc, Kind::Static)?;
+        row.text = Text::of(alloc, text)?;
+        row.inline = Text::of(alloc, inline)?;
+        expect(spelled_with(alloc, row)? == good, "two texts")?;
     }
     let twice = Name::of("a").ok_or("a name")?;
     let mut row = bare(alloc, Kind::Static)?;
     row.classes = Names::of(vec![in alloc; twice, twice]?);
-    assert!(rt; !spelled_with(alloc, row)?);
+    expect(!spelled_with(alloc, row)?, "a class that stands twice")
+}
+
+#[test]
+fn spelled_states(rt: HostRuntime) -> Result<(), Fail> {
+    let alloc = rt.alloc();
+    let bar = |total| Private::Bar { done: 5, total };
+    for (kind, private, good) in [
+        (Kind::Static, Private::Plain, true),
+        (Kind::Static, Private::On(false), false),
+        (Kind::Checkbox, Private::On(true), true),
+        (Kind::Checkbox, Private::Plain, false),
+        (Kind::Input, Private::Cursor(9), true),
+        (Kind::Input, Private::Chosen(9), false),
+        (Kind::OptionList, Private::Chosen(9), true),
+        (Kind::OptionList, Private::Cursor(9), false),
+        (Kind::ProgressBar, bar(0), false),
+        (Kind::ProgressBar, bar(1), true),
+        (Kind::ProgressBar, bar(1_000_000), true),
+        (Kind::ProgressBar, bar(1_000_001), false),
+    ] {
+        let mut row = bare(alloc, kind)?;
+        row.private = private;
+        expect(spelled_with(alloc, row)? == good, "a state")?;
+    }
+    Ok(())
+}
+
+#[test]
+fn kinds_have_names_and_fresh_states() -> Result<(), Fail> {
+    let bar = Private::Bar {
+        done: 0,
+        total: 100,
+    };
+    for (kind, name, fresh) in [
+        (Kind::Screen, "Screen", Private::Plain),
+        (Kind::VerticalScroll, "VerticalScroll", Private::Plain),
+        (Kind::Input, "Input", Private::Cursor(5)),
+        (Kind::Checkbox, "Checkbox", Private::On(false)),
+        (Kind::OptionList, "OptionList", Private::Chosen(0)),
+        (Kind::ProgressBar, "ProgressBar", bar),
+    ] {
+        expect(kind.name() == name, "a name")?;
+        expect(Private::fresh(kind, 5) == fresh, "a state")?;
+    }
+    let meter = Kind::Handed(Name::of("Meter").ok_or("a name")?);
+    expect(meter.name() == "Meter", "a name that is handed in")?;
+    expect(Private::fresh(meter, 5) == Private::Plain, "and its state")
+}
+
+#[test]
+fn spelled_kinds(rt: HostRuntime) -> Result<(), Fail> {
+    let alloc = rt.alloc();
+    for (kind, good) in [
+        ("Meter", true),
+        ("meter", false),
+        ("_Meter", false),
+        ("Footer", false),
+        ("Screen", false),
+        ("Screens", true),
+    ] {
+        let name = Name::of(kind).ok_or("a name")?;
+        let row = bare(alloc, Kind::Handed(name))?;
+        expect(spelled_with(alloc, row)? == good, "a kind")?;
+    }
     Ok(())
 }

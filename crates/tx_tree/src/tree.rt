@@ -61,8 +61,8 @@ impl Tree {
     ghost use Rattle.tx_tree.specs.TreeValue.{SameRows, KeepsSpares};
     ghost use Rattle.tx_tree.specs.WellFormed.{IsTree};
 
-    // The tree of a Screen alone.
-    pub(crate) fn of_screen(alloc: Global, row: NewRow) -> Result<Tree, NoMemory>
+    /// The tree of a Screen alone. Its node has the number 1.
+    pub fn of_screen(alloc: Global, row: NewRow) -> Result<Tree, NoMemory>
         requires { is_screen row.kind ≡ true }
         ensures rows { IfOk result (λ tree. tree.rows ≡ placed row 1 0 ∷ []) }
         ensures made { IfOk result (λ tree. tree.made ≡ 1) }

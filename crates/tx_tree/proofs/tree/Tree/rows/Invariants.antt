@@ -1,7 +1,8 @@
 use Rattle.std.proofs.Common.{◌≡◌, ◌≤◌, ◌++◌, ℕ, map}
 use Rattle.tx_tree.specs.Row.{plain}
 use Rattle.tx_tree.specs.Rows.{count_of}
-use Rattle.tx_tree.proofs.Listings.{rest_from, left_from}
+use Rattle.tx_tree.specs.Walk.{rest_from}
+use Rattle.tx_tree.proofs.Listings.{left_from}
 use Rattle.tx_tree.proofs.tree.Tree.rows.Given as goal
 
 -- the copies, with the rows that are left, are all rows
