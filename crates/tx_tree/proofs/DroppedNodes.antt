@@ -226,3 +226,15 @@ ahead-steps nodes n1 behind find c p ahead kept live not_first ep e1 ea =
     ∙ ap (λ (o : Option Node). ahead_in c (children_in o)) (parent-slot kept c node here not_first))) in
     let lt = ahead_in_bounds kept c node here not_first in
     omega (arith, before, lt)
+
+-- the node that goes stands once in its parent's list
+pub once-steps : (nodes n1 : List (Option Node)) (behind : List ℕ) (find : List ℕ → Option ℕ) (c p : ℕ)
+    → IsKept nodes behind find → is_some (slots nodes c) ≡ true → c ≢ 1
+    → p ≡ parent_in (slots nodes c) → n1 ≡ set nodes c None → times c (children_in (slots n1 p)) ≡ 1
+once-steps nodes n1 behind find c p kept live not_first ep e1 =
+    let (node, here) = live_node (slots nodes c) live in
+    let up : p ≡ node.parent = ep ∙ ap parent_in here in
+    ap (λ (z : List (Option Node)). times c (children_in (slots z p))) e1
+    ∙ (ap (λ (z : ℕ). times c (children_in (slots (set nodes c None) z))) up
+    ∙ (ap (λ (o : Option Node). times c (children_in o)) (parent-slot kept c node here not_first)
+    ∙ (kept.linked.nodes c node here).listed not_first))

@@ -41,6 +41,13 @@ pub ahead_of-cut : (n : ℕ) (left right : List ℕ) → times n left ≡ 0 → 
 ahead_of-cut n [] right h = rw (eq-eqb n n refl) refl
 ahead_of-cut n (k ∷ left) right h = rw (none-head _ _ h) (ap (λ (z : List ℕ). k ∷ z) (ahead_of-cut n left right (none-tail _ _ h)))
 
+-- the numbers ahead of one that stands in a list once, and last
+pub ahead_of-last : (n : ℕ) (front : List ℕ) → times n (front ++ n ∷ []) ≡ 1 → ahead_of n (front ++ n ∷ []) ≡ front
+ahead_of-last n front once =
+    let sum = times-append n front (n ∷ []) in
+    let some = times-head n [] in
+    ahead_of-cut n front [] (omega (arith, once, sum, some))
+
 pub past_of-cut : (n : ℕ) (left right : List ℕ) → times n left ≡ 0 → past_of n (left ++ (n ∷ right)) ≡ right
 past_of-cut n [] right h = rw (eq-eqb n n refl) refl
 past_of-cut n (k ∷ left) right h = rw (none-head _ _ h) (past_of-cut n left right (none-tail _ _ h))

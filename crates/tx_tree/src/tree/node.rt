@@ -64,11 +64,11 @@ impl Children {
 
     /// Takes a child away, and answers the child directly ahead of it, or 0.
     pub fn remove(&mut self, child: u32) -> u32
-        requires { 0 < times child self.old }
+        requires { times child self.old ≡ 1 }
         ensures children { self.new ≡ without_child child self.old }
         ensures ahead { result ≡ ahead_in child self.old }
     {
-        let place = place_of(&self.items, child);
+        let place = only_place_of(&self.items, child);
         let ahead = child_ahead(&self.items, place);
         self.items.remove(place);
         ahead
@@ -93,6 +93,21 @@ impl Children {
         };
         (ahead, next_ahead)
     }
+}
+
+// The place of a child in a list that has it once. The last place is looked at first, so that
+// nothing is searched where children go from the last one on.
+fn only_place_of(children: &[u32], child: u32) -> usize
+    requires { times child children.now ≡ 1 }
+    ensures place { result ≡ length (ahead_of child children.now) }
+    ensures within { result < length children.now }
+{
+    if let [front @ .., last] = children
+        && *last == child
+    {
+        return front.len();
+    }
+    place_of(children, child)
 }
 
 // The place of a child in a list that has it.

@@ -113,7 +113,7 @@ fn take_node(nodes: &mut Vec<Option<Node>>, n: u32) -> (u32, Option<Name>)
 
 // Takes a child away from a node, and answers the child that stood directly ahead of it, or 0.
 fn remove_child(nodes: &mut Vec<Option<Node>>, parent: u32, child: u32) -> u32
-    requires { 0 < times child (children_in (slots nodes.old.items parent)) }
+    requires { times child (children_in (slots nodes.old.items parent)) ≡ 1 }
     ensures nodes { nodes.new.items ≡ slice_set nodes.old.items parent (with_children (without_child child (children_in (slots nodes.old.items parent))) (slots nodes.old.items parent)) }
     ensures ahead { result ≡ ahead_in child (children_in (slots nodes.old.items parent)) }
 {

@@ -1,6 +1,11 @@
 -- A node without children goes.
-use Rattle.tx_tree.proofs.DroppedNodes.{drop-steps, ahead-steps}
+use Rattle.tx_tree.proofs.DroppedNodes.{drop-steps, ahead-steps, once-steps}
 use Rattle.tx_tree.proofs.tree.remove.remove_leaf.Goals as goal
+
+pub remove_child-ahead-requires : goal.remove_child-ahead-requires
+remove_child-ahead-requires c =
+    once-steps c.args.nodes.now.items c.take_node-parent.new.nodes.items c.args.behind.now.items _ c.args.n c.take_node-parent.result.0
+    c.requires.kept c.requires.live c.requires.not_first c.take_node-parent.ensures.parent c.take_node-parent.ensures.nodes
 
 pub pass_next-requires-clause-to : goal.pass_next-requires-clause-to
 pass_next-requires-clause-to c =
