@@ -1,5 +1,6 @@
 pub mod Cell
 pub mod Grid
+pub mod Laws
 pub mod Lines
 pub mod Pen
 pub mod Plain

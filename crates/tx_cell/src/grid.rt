@@ -1,7 +1,7 @@
 //! Grids: rows of cells, one below the other.
 
 ghost use Rattle.std.specs.Prelude.{◌≡◌, ◌+◌, ◌<◌, ◌≤◌, ◌++◌, false, length, take, drop, slice_get, Some, IfOk};
-ghost use Rattle.tx_cell.specs.Grid.{IsGrid, filled, cell_at, with_laid, with_put};
+ghost use Rattle.tx_cell.specs.Grid.{IsGrid, IsPutOn, filled, cell_at, with_laid, with_put, mended};
 ghost use Rattle.tx_cell.specs.Strip.{IsWellFormed, laid};
 
 use crate::cut::{blank_tail_front, blank_wide_end};
@@ -110,6 +110,28 @@ impl Grid {
         self.cells.copy_from_slice(from.cells.as_slice());
     }
 
+    /// Makes all cells this one, which has width 1.
+    pub fn fill(&mut self, fill: Cell)
+        requires narrow { fill.width ≡ 1 }
+        ensures grid { self.new ≡ filled self.old.size fill }
+    {
+        let is_narrow = fill.width() == 1;
+        prove!(is_narrow);
+        self.cells.fill(fill);
+    }
+
+    /// Takes a cell back that was put in column `x` of row `y`: all cells are those of the grid
+    /// `before` it again.
+    pub fn take_back(&mut self, before: &Grid, x: u32, y: u32)
+        requires row { y < before.now.size.height }
+        requires put { IsPutOn before.now self.old x y }
+        ensures grid { self.new ≡ before.now }
+    {
+        let width = before.size.width as usize;
+        let start = y as usize * width;
+        mend_at(&mut self.cells, &before.cells, start, width, x as usize);
+    }
+
     fn lay_cells(&mut self, x: u32, y: u32, cells: &[Cell])
         requires formed { IsWellFormed cells.now }
         requires row { y < self.old.size.height }
@@ -129,6 +151,32 @@ fn lay_at(all: &mut [Cell], start: usize, width: usize, x: usize, cells: &[Cell]
     ensures row { all.new ≡ take start all.old ++ (laid x cells.now (take width (drop start all.old)) ++ drop (start + width) all.old) }
 {
     lay_in(&mut all[start..start + width], x, cells);
+}
+
+// Mends the row of so many cells that begins at `start` round column `x`.
+fn mend_at(all: &mut [Cell], before: &[Cell], start: usize, width: usize, x: usize)
+    requires row { start + width ≤ length all.old }
+    requires row_before { start + width ≤ length before.now }
+    requires column { x < width }
+    ensures row { all.new ≡ take start all.old ++ (mended x (take width (drop start all.old)) (take width (drop start before.now)) ++ drop (start + width) all.old) }
+{
+    mend(
+        &mut all[start..start + width],
+        &before[start..start + width],
+        x,
+    );
+}
+
+// Takes the cells round column `x` from another row. A wide cell and the halves beside it are
+// four columns.
+fn mend(row: &mut [Cell], before: &[Cell], x: usize)
+    requires same { length row.old ≡ length before.now }
+    requires column { x < length row.old }
+    ensures row { row.new ≡ mended x row.old before.now }
+{
+    let from = x.saturating_sub(1);
+    let to = row.len().min(x + 3);
+    row[from..to].copy_from_slice(&before[from..to]);
 }
 
 // Lays cells over a row from column `x` on.

@@ -9,6 +9,7 @@ mod cell;
 mod columns;
 mod cut;
 mod grid;
+pub mod laws;
 mod lines;
 mod pen;
 mod strip;

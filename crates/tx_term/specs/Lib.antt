@@ -1,3 +1,7 @@
+pub mod Buffers
+pub mod Canvas
 pub mod Drawing
 pub mod Gather
+pub mod Machine
+pub mod Sequence
 pub mod Update

@@ -3,6 +3,7 @@ ghost use Rattle.std.specs.Prelude.{◌≡◌, ◌≤◌, ◌<◌, ◌+◌, ◌^
 ghost use Rattle.tx_io.specs.Sending.{seen};
 ghost use Rattle.tx_term.specs.Gather.{Gathered, Adds, handed};
 
+use crate::bytes::append;
 use std::marker::Model;
 use tx_io::{Sent, Sink, send_all};
 
@@ -81,12 +82,4 @@ impl Gather {
             failed: self.failed,
         }
     }
-}
-
-/// Copies a piece behind what is filled.
-fn append(buffer: &mut [u8], filled: usize, piece: &[u8])
-    requires room { filled + length piece.now ≤ length buffer.old }
-    ensures after { take (filled + length piece.now) buffer.new ≡ take filled buffer.old ++ piece.now }
-{
-    buffer[filled..filled + piece.len()].copy_from_slice(piece);
 }
