@@ -67,7 +67,7 @@ is_colour number = (number == 38) || (number == 48)
 abbrev pub with_colour : ℕ → ℕ → ℕ → ℕ → ℕ → Pen → Option Pen
 with_colour number form r g b pen =
     if (form == 2) && (nat_le r 255 && (nat_le g 255 && nat_le b 255)) then
-      Some (if number == 38 then record pen { fore = record { r = r; g = g; b = b } } else record pen { back = record { r = r; g = g; b = b } })
+    Some (if number == 38 then record pen { fore = record { r = r; g = g; b = b } } else record pen { back = record { r = r; g = g; b = b } })
     else None
 
 -- the pen that numbers make of another one, from the left, where each of them is listed

@@ -21,6 +21,7 @@ use tx_geom::Size;
 use unfinished::{MOST, Stage, Unfinished, parameters};
 
 const ESC: u8 = 0x1B;
+
 const CAN: u8 = 0x18;
 
 /// A terminal of a stated kind, which shows what a real one is to show.

@@ -1,3 +1,5 @@
+ghost use Rattle.std.specs.Prelude.{◌<◌};
+
 use crate::{CLOSING, Terminal, present};
 use std::alloc::AllocError;
 use std::test::Fail;
@@ -260,8 +262,14 @@ fn a_terminal_shows_each_prefix(rt: HostRuntime) -> Result<(), Fail> {
         (b"\x1b[9;9Hab", "....|....|....|....|....|....|...a|...a|"),
         // A sequence that is cut, by CAN, by a control byte, and by ESC.
         (b"\x1b[1;3\x18a", "....|....|....|....|....|....|a...|"),
-        (b"\x1b[1;3\x07Ha", "....|....|....|....|....|....|H...|Ha..|"),
-        (b"\x1b[1\x1b[1;2Ha", "....|....|....|....|....|....|....|....|....|.a..|"),
+        (
+            b"\x1b[1;3\x07Ha",
+            "....|....|....|....|....|....|H...|Ha..|",
+        ),
+        (
+            b"\x1b[1\x1b[1;2Ha",
+            "....|....|....|....|....|....|....|....|....|.a..|",
+        ),
         (b"\x1bca", "....|....|a...|"),
         (b"ab\x1b[2Jc", "a...|ab..|ab..|ab..|ab..|....|..c.|"),
         (b"ab\x1b[JC", "a...|ab..|ab..|ab..|ab..|abC.|"),

@@ -13,6 +13,6 @@ pub returns : goal.returns
 returns t c =
     let made = sym c.with_mark.ensures ∙ c.in_ok-next-2.was in
     c.with_settings-2.ensures ∙ elim c.if-rest-lt4.branch [
-      in_default-rest w ↦ with_settings-short_slice c.args.numbers.now c.args.pen c.in_ok-next-2.next c.in-len1-up.len_at_least (omega (arith, w.in_default-rest.len_below)) made
+      | in_default-rest w ↦ with_settings-short_slice c.args.numbers.now c.args.pen c.in_ok-next-2.next c.in-len1-up.len_at_least (omega (arith, w.in_default-rest.len_below)) made
       | in-len4-up+else-is_colour w ↦ with_settings-mark_slice c.args.numbers.now c.args.pen c.in_ok-next-2.next c.in-len1-up.len_at_least (sym w.is_colour.ensures ∙ w.if-is_colour.false) made
     ]
