@@ -9,7 +9,7 @@ use Rattle.std.proofs.lemmas.List.Elements.{All-nil, All-cons, All-head, All-tai
 use Rattle.std.specs.List.{All, slice_get}
 use Rattle.std.specs.Prelude.{Option, Some, nat_lt, min, cond}
 use Rattle.tx_cell.specs.Cell.{CellValue, IsCell, IsOfItsText, tail_of}
-use Rattle.tx_cell.specs.Grid.{GridValue, IsGrid, IsArray, IsPutOn, rows_of, changed_at, mended, with_put}
+use Rattle.tx_cell.specs.Grid.{GridValue, IsGrid, IsArray, IsPutOn, rows_of, changed_at, mended}
 use Rattle.tx_geom.specs.declared.places.Size.{Size}
 use Rattle.tx_cell.specs.Strip.{IsWellFormed, laid, with_tail, cut_end, cut_front, joined}
 use Rattle.tx_cell.proofs.StripLemmas.{IsWellFormed-laid, length-laid, length-cut_end}
@@ -238,7 +238,7 @@ mended-laid x (cell ∷ cells) row some few inside =
     let new = cell ∷ cells in
     let same : length (laid x new row) ≡ length row = length-laid x new row inside in
     rw same (mended-parts (x - 1) (min (length row) (x + 3)) (laid x new row) row (omega arith) (take-laid x cell cells row (omega arith))
-        (mended-back x cell cells row (nat_lt (x + 3) (length row)) refl few inside))
+    (mended-back x cell cells row (nat_lt (x + 3) (length row)) refl few inside))
 
 few-with_tail : (cell : CellValue) → (0 < length (with_tail cell)) × (length (with_tail cell) ≤ 2)
 few-with_tail cell = elim (nat_lt 1 cell.width) as (λ b. (0 < length (cond b (cell ∷ tail_of cell.pen ∷ []) (cell ∷ []))) × (length (cond b (cell ∷ tail_of cell.pen ∷ []) (cell ∷ [])) ≤ 2))
@@ -267,17 +267,19 @@ mended-all width height y x before now new inside area area_now some few fits ro
     let back : drop (start + width) now ≡ drop width (drop start before) =
     sym (drop-drop width start now) ∙ ap (drop width) rest ∙ drop_at laid_row _ width laid_long ∙ sym (drop-drop width start before) in
     rw (front, middle, back, mended-laid x new row some few (rw row_long fits))
-        (ap (λ l. take start before ++ l) (take-append-drop width (drop start before)) ∙ take-append-drop start before)
+    (ap (λ l. take start before ++ l) (take-append-drop width (drop start before)) ∙ take-append-drop start before)
 
 pub taken_back : (size size_now : Size) (before now : List CellValue) (x y : ℕ) → IsArray size before → IsArray size_now now → y < size.height
     → IsPutOn (record { size = size; rows = rows_of size.width size.height before }) (record { size = size_now; rows = rows_of size_now.width size_now.height now }) x y
     → (size_now ≡ size) × (take (y * size.width) now ++ (mended x (take size.width (drop (y * size.width) now)) (take size.width (drop (y * size.width) before)) ++ drop (y * size.width + size.width) now) ≡ before)
 taken_back size size_now before now x y kept kept_now inside put =
     let same : size_now ≡ size = ap (λ (g : GridValue). g.size) put.put in
-    let few = few-with_tail put.cell in
-    (same, mended-all size.width size.height y x before now (with_tail put.cell) inside kept.area
-        (kept_now.area ∙ ap (λ (s : Size). s.width * s.height) same) few.0 few.1 put.inside
-        (ap (λ (s : Size). rows_of s.width s.height now) (sym same) ∙ ap (λ (g : GridValue). g.rows) put.put))
+    let few = few-with_tail put.cell in (
+      same,
+      mended-all size.width size.height y x before now (with_tail put.cell) inside kept.area
+          (kept_now.area ∙ ap (λ (s : Size). s.width * s.height) same) few.0 few.1 put.inside
+          (ap (λ (s : Size). rows_of s.width s.height now) (sym same) ∙ ap (λ (g : GridValue). g.rows) put.put),
+    )
 
 -- the grid of these cells
 abbrev pub grid_of : Size → List CellValue → GridValue

@@ -1,5 +1,5 @@
 -- What the cell is that a text makes.
-use Rattle.std.proofs.Common.{◌≡◌, ◌≤◌, ◌<◌, ℕ, List, [], ◌∷◌, length, Bool, true, false, refl, arith, ap, sym, ◌∙◌, Option, Some, None, cond, ◌||◌, ◌==◌, nat_lt, subst}
+use Rattle.std.proofs.Common.{◌≡◌, ◌<◌, ℕ, List, [], ◌∷◌, length, Bool, true, false, refl, arith, Option, Some, None, cond, ◌||◌, ◌==◌, nat_lt, subst}
 use Rattle.std.proofs.lemmas.Bool.{eqb-false, ltb-false}
 use Rattle.std.specs.Str.{chars}
 use Rattle.unicode_segmentation.specs.Grapheme.{graphemes}

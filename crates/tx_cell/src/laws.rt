@@ -6,11 +6,9 @@ ghost use Rattle.tx_cell.specs.Laws.{TextsMakeCells, NothingMakesNoCell};
 /// 32 bytes, without a control character, and with no two plain characters.
 pub fn texts_make_cells()
     ensures law { TextsMakeCells }
-{
-}
+{}
 
 /// No bytes make no cell.
 pub fn nothing_makes_no_cell()
     ensures law { NothingMakesNoCell }
-{
-}
+{}

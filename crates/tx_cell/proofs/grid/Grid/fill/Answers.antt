@@ -1,6 +1,5 @@
-use Rattle.std.proofs.Common.{◌≡◌, ◌*◌, replicate, ap, sym, ◌∙◌, length, rules}
+use Rattle.std.proofs.Common.{◌≡◌, ◌*◌, replicate, ap, ◌∙◌, length, rules}
 use Rattle.std.specs.Vec.{vec_len}
-use Rattle.tx_geom.specs.declared.places.Size.{Size}
 use Rattle.tx_cell.proofs.GridLemmas.{IsArray-filled, rows_of-replicate}
 use Rattle.tx_cell.specs.Grid.{GridValue, filled}
 use Rattle.tx_cell.proofs.grid.Grid.fill.Goals as goal

@@ -1,4 +1,4 @@
-use Rattle.std.proofs.Common.{◌≡◌, ◌++◌, length, take, drop, ap, sym, ◌∙◌}
+use Rattle.std.proofs.Common.{◌≡◌, ◌++◌, length, take, drop, ap, ◌∙◌}
 use Rattle.std.proofs.Math.Seq.{take_at}
 use Rattle.tx_cell.proofs.GridLemmas.{taken_back, grid_of, IsArray-same}
 use Rattle.tx_cell.proofs.grid.Grid.take_back.Goals as goal
