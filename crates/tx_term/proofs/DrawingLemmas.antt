@@ -93,11 +93,11 @@ pub DrawsColumn-end : {s : SinkSeen} {w : Writer} (row column : ℕ) (whole behi
 DrawsColumn-end row column whole behind = record { marks = []; drawn = Draws-nothing; few = omega arith; rest = refl }
 
 -- the units where there is a tail, and where there is none
-units-tail : (whole : Bool) (column : ℕ) (old new : CellValue) (pairs : List (CellValue × CellValue)) → new.tail ≡ true
+pub units-tail : (whole : Bool) (column : ℕ) (old new : CellValue) (pairs : List (CellValue × CellValue)) → new.tail ≡ true
     → units whole column ((old, new) ∷ pairs) ≡ units whole (column + 1) pairs
 units-tail whole column old new pairs tail = rw tail refl
 
-units-head : (whole : Bool) (column : ℕ) (old new : CellValue) (pairs : List (CellValue × CellValue)) → new.tail ≡ false
+pub units-head : (whole : Bool) (column : ℕ) (old new : CellValue) (pairs : List (CellValue × CellValue)) → new.tail ≡ false
     → units whole column ((old, new) ∷ pairs) ≡ record { column = column; cell = new; differs = whole || unit_differs (old, new) pairs } ∷ units whole (column + 1) pairs
 units-head whole column old new pairs head = rw head refl
 

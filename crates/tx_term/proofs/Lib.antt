@@ -1,6 +1,14 @@
 pub mod BufferLemmas
 pub mod CanvasLemmas
 pub mod DrawingLemmas
+pub mod FeedLemmas
 pub mod GatherLemmas
+pub mod HeldLemmas
+pub mod LawLemmas
 pub mod MachineLemmas
+pub mod NumberLemmas
+pub mod RowLemmas
+pub mod SequenceLemmas
 pub mod SettingLemmas
+pub mod TextLemmas
+pub mod UnitLemmas

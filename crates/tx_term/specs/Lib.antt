@@ -2,6 +2,7 @@ pub mod Buffers
 pub mod Canvas
 pub mod Drawing
 pub mod Gather
+pub mod Laws
 pub mod Machine
 pub mod Sequence
 pub mod Update

@@ -7,6 +7,7 @@
 #![tactic(auto)]
 
 mod bytes;
+pub mod laws;
 mod machine;
 #[cfg(test)]
 mod tests;
