@@ -1,5 +1,5 @@
 -- Held cells that are put.
-use Rattle.std.proofs.Common.{◌≡◌, ◌≤◌, ◌<◌, ◌+◌, ℕ, List, [], length, Bool, true, false, refl, arith, ap, sym, ◌∙◌, Option, Some, None, cond, nat_le, subst}
+use Rattle.std.proofs.Common.{◌≡◌, ◌≤◌, ◌<◌, ◌+◌, ℕ, [], Bool, true, false, refl, arith, ap, sym, ◌∙◌, Option, Some, None, cond, nat_le}
 use Rattle.std.proofs.lemmas.Bool.{leb-true}
 use Rattle.tx_cell.proofs.MadeLemmas.{cell_of-nothing}
 use Rattle.tx_cell.specs.Cell.{CellValue, blank, cell_of}

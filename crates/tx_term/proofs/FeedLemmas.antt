@@ -7,10 +7,10 @@ use Rattle.tx_cell.proofs.MadeLemmas.{cell_of-nothing}
 use Rattle.tx_cell.specs.Cell.{cell_of}
 use Rattle.tx_cell.specs.Pen.{and_first, and_second}
 use Rattle.tx_term.specs.Canvas.{CanvasValue, put_held, held_cell, fitting, drawn, columns_of}
-use Rattle.tx_term.specs.Machine.{Machine, fed, step, ended, run, stage_of, byte_in, escape_byte, sequence_byte, last_command, longer_by}
+use Rattle.tx_term.specs.Machine.{Machine, fed, step, ended, run, stage_of, longer_by}
 use Rattle.tx_term.specs.Sequence.{command_of}
 use Rattle.tx_term.specs.declared.machine.command.Command.TheVariants.{Nothing}
-use Rattle.tx_term.proofs.CanvasLemmas.{shown_grid-nothing, held-put_held}
+use Rattle.tx_term.proofs.CanvasLemmas.{held-put_held}
 
 -- ---- bytes behind bytes
 
@@ -74,7 +74,7 @@ step-parameter machine parameters byte unfinished inside short =
     let no_cancel : (byte == 24) ≡ false = not_equal byte 24 0x20 0x3F inside (omega arith) in
     let room : nat_lt (length (27 ∷ 91 ∷ parameters)) 64 ≡ true = lt-ltb _ _ (omega (arith, short)) in
     rw (no_escape, no_cancel, ap stage_of unfinished, inside, ap (λ u. longer_by u byte) unfinished)
-        (ap (λ b. record machine { unfinished = cond b (27 ∷ 91 ∷ (parameters ++ byte ∷ [])) (27 ∷ 91 ∷ parameters) }) room)
+    (ap (λ b. record machine { unfinished = cond b (27 ∷ 91 ∷ (parameters ++ byte ∷ [])) (27 ∷ 91 ∷ parameters) }) room)
 
 out_of_range : (a low high below : ℕ) → is_in_range low high a ≡ true → below < low → is_in_range 0x20 below a ≡ false
 out_of_range a low high below inside under =
@@ -97,7 +97,7 @@ fed-parameters (byte ∷ bytes) before machine unfinished all short =
     fed-cons machine byte bytes
     ∙ ap (λ m. fed m bytes) (step-parameter machine before byte unfinished (and_first _ _ all) (omega (arith, short)))
     ∙ fed-parameters bytes (before ++ byte ∷ []) (record machine { unfinished = 27 ∷ 91 ∷ (before ++ byte ∷ []) }) refl (and_second _ _ all)
-        (omega (arith, short, length-append before (byte ∷ [])))
+    (omega (arith, short, length-append before (byte ∷ [])))
     ∙ ap (λ b. record machine { unfinished = 27 ∷ 91 ∷ b }) (append_assoc before (byte ∷ []) bytes)
 
 -- the last byte
@@ -109,8 +109,8 @@ step-last machine parameters byte unfinished inside short =
     let no_cancel : (byte == 24) ≡ false = not_equal byte 24 0x40 0x7E inside (omega arith) in
     let room : nat_lt (length (27 ∷ 91 ∷ parameters)) 64 ≡ true = lt-ltb _ _ (omega (arith, short)) in
     rw (no_escape, no_cancel, ap stage_of unfinished, out_of_range byte 0x40 0x7E 0x3F inside (omega arith), inside)
-        (ap (λ u. run (cond (nat_lt (length u) 64) (command_of byte (drop 2 u) machine.canvas.pen) Nothing) (ended machine)) unfinished
-        ∙ ap (λ b. run (cond b (command_of byte parameters machine.canvas.pen) Nothing) (ended machine)) room)
+    (ap (λ u. run (cond (nat_lt (length u) 64) (command_of byte (drop 2 u) machine.canvas.pen) Nothing) (ended machine)) unfinished
+    ∙ ap (λ b. run (cond b (command_of byte parameters machine.canvas.pen) Nothing) (ended machine)) room)
 
 step-bracket : (m : Machine) → step (record m { unfinished = 27 ∷ [] }) 91 ≡ record m { unfinished = 27 ∷ 91 ∷ [] }
 unfolding step

@@ -1,11 +1,11 @@
 -- The text of a cell, as it is held.
-use Rattle.std.proofs.Common.{◌≡◌, ◌≤◌, ◌<◌, ◌+◌, ◌-◌, ◌==◌, ℕ, zero, suc, List, [], ◌∷◌, ◌++◌, length, Bool, true, false, refl, arith, ap, sym, ◌∙◌, ◌&&◌, ◌||◌, cond, nat_le, nat_lt, append_assoc, append-nil, length-append, Option, Some, None, subst}
-use Rattle.std.proofs.lemmas.Bool.{le-ltb, ltb-true, ltb-false, eqb-true}
+use Rattle.std.proofs.Common.{◌≡◌, ◌≤◌, ◌+◌, ◌==◌, ℕ, List, [], ◌∷◌, ◌++◌, length, Bool, true, false, refl, arith, ap, sym, ◌∙◌, ◌&&◌, cond, nat_lt, append_assoc, append-nil, length-append}
+use Rattle.std.proofs.lemmas.Bool.{le-ltb, ltb-false, eqb-true}
 use Rattle.std.proofs.lemmas.List.Recursion.{is_count_by}
 use Rattle.std.proofs.lemmas.Str.{IsUtf8-from_is_utf8, chars-encodes, chars-nil, encodes-append, length-encode, len_utf8_bounds}
 use Rattle.std.specs.Char.{is_control}
 use Rattle.std.specs.List.{list_any, list_all}
-use Rattle.std.specs.Str.{IsUtf8, is_utf8, chars}
+use Rattle.std.specs.Str.{chars}
 use mathlib.Core.Logic.{◌⊎◌, inl, inr}
 use lib.Utf8.{scalar, scalars, encode, encodes}
 use Rattle.tx_cell.proofs.MadeLemmas.{cell_of-IsMade}
@@ -16,7 +16,7 @@ use Rattle.tx_cell.specs.Plain.{is_plain}
 use Rattle.tx_term.proofs.CanvasLemmas.{held-put_held}
 use Rattle.tx_term.proofs.FeedLemmas.{put_held-nothing}
 use Rattle.tx_term.proofs.TextLemmas.{with_characters, fed-encodes}
-use Rattle.tx_term.specs.Canvas.{CanvasValue, put_held, with_character, ready_for, joined_by}
+use Rattle.tx_term.specs.Canvas.{CanvasValue, put_held, with_character, joined_by}
 use Rattle.tx_term.specs.Machine.{Machine, fed}
 use Rattle.tx_term.specs.Update.{is_plain_cell}
 
@@ -107,7 +107,7 @@ text-grows first done (c ∷ cs) canvas held are more apart room =
     let next = record canvas { held = encodes (first ∷ (done ++ c ∷ [])) } in
     ap (with_characters cs) (joins canvas (encode c) none (omega arith) ∙ ap (λ h. record canvas { held = h ++ encode c }) held ∙ ap (λ h. record canvas { held = h }) longer)
     ∙ text-grows first (done ++ c ∷ []) cs next refl (scalars-more (first ∷ done) c are scalar_c) (and_second _ _ more) (apart-rest first c cs apart)
-        (omega (arith, ap length (sym longer), length-append text (encode c)))
+    (omega (arith, ap length (sym longer), length-append text (encode c)))
     ∙ ap (λ h. record canvas { held = h }) (ap (λ t. t ++ encodes cs) (sym longer) ∙ append_assoc text (encode c) (encodes cs))
 
 -- the text of a cell behind a move, a pen, or the start

@@ -1,25 +1,25 @@
 -- Whole updates, as they are read.
-use Rattle.std.proofs.Common.{◌≡◌, ◌≤◌, ◌<◌, ◌+◌, ℕ, zero, suc, List, [], ◌∷◌, ◌++◌, length, zip, replicate, Bool, true, false, refl, arith, ap, ap₂, sym, ◌∙◌, cond, nat_lt, append_assoc, append-nil, length-append, Option, Some, None, subst, codes, flat_map}
+use Rattle.std.proofs.Common.{◌≡◌, ◌≤◌, ◌+◌, ℕ, zero, suc, List, [], ◌∷◌, ◌++◌, length, zip, replicate, Bool, true, false, refl, arith, ap, ap₂, sym, ◌∙◌, cond, append_assoc, length-append, Option, None, subst, codes, flat_map}
 use Rattle.std.proofs.lemmas.List.{length-replicate}
 use Rattle.std.proofs.lemmas.List.Elements.{All-head, All-tail, All-replicate}
 use Rattle.std.specs.List.{All}
 use Rattle.tx_cell.proofs.CellLemmas.{IsOfItsText-blank}
-use Rattle.tx_cell.specs.Cell.{CellValue, IsOfItsText, blank}
+use Rattle.tx_cell.specs.Cell.{CellValue, blank}
 use Rattle.tx_cell.specs.Grid.{GridValue, IsGrid, filled}
-use Rattle.tx_cell.specs.Strip.{IsWellFormed, IsWellFormedAfter, cut_front}
+use Rattle.tx_cell.specs.Strip.{IsWellFormed}
 use Rattle.tx_cell.specs.declared.pen.Pen.{Pen}
 use Rattle.tx_geom.specs.declared.places.Size.{Size}
-use Rattle.tx_term.proofs.CanvasLemmas.{size-drawn, held-put_held, shown_grid-nothing}
+use Rattle.tx_term.proofs.CanvasLemmas.{size-drawn, held-put_held}
 use Rattle.tx_term.proofs.DrawingLemmas.{written-append, pen_after-append, rest_marks-all}
 use Rattle.tx_term.proofs.FeedLemmas.{AreParameters, fed-append, fed-nothing, fed-cons, fed-sequence, step-cancel, pen-put_held, put_held-nothing}
-use Rattle.tx_term.proofs.RowLemmas.{AreBytes, IsRest, Stands-rest, row_leads, cut_front-formed}
+use Rattle.tx_term.proofs.RowLemmas.{AreBytes, Stands-rest, row_leads, cut_front-formed}
 use Rattle.tx_term.proofs.UnitLemmas.{Stands}
-use Rattle.tx_term.specs.Canvas.{CanvasValue, put_held, shown_grid, held_cell, erased}
+use Rattle.tx_term.specs.Canvas.{CanvasValue, put_held, held_cell, erased}
 use Rattle.tx_term.specs.Drawing.{pen_after, rest_marks}
-use Rattle.tx_term.specs.Laws.{HasByteChannels, IsScreen, UpdatesLead, WholeUpdatesLead}
-use Rattle.tx_term.specs.Machine.{Machine, Shows, fed, ended, run, screen, screen_of}
+use Rattle.tx_term.specs.Laws.{IsScreen, UpdatesLead, WholeUpdatesLead}
+use Rattle.tx_term.specs.Machine.{Machine, Shows, fed, ended, run, screen_of}
 use Rattle.tx_term.specs.Sequence.{default_pen, command_of}
-use Rattle.tx_term.specs.Update.{Mark, Unit, written, units, runs, run_marks, row_marks, rows_marks, opening, update}
+use Rattle.tx_term.specs.Update.{written, units, runs, run_marks, row_marks, rows_marks, opening, update}
 use Rattle.std.specs.Int.{is_in_range}
 use Rattle.tx_term.specs.declared.machine.command.Command.{Command}
 use Rattle.tx_term.specs.declared.machine.command.Command.TheVariants.{Erase, SetPen, ShowCursor, Alternate}
@@ -51,21 +51,21 @@ module _ (size : Size) (whole : Bool) (high : size.height ≤ 65535) (broad : si
       let marks : rest_marks y false (units whole 0 (zip old new)) ≡ first = rest_marks-all y (units whole 0 (zip old new)) in
       let start = subst (λ row. Stands machine (screen_with size (done ++ row ∷ olds)) last y 0 false) (sym (cut_front-formed old old_formed)) (Stands-rest stands y 0) in
       let led = row_leads size done olds whole high broad (omega (arith, total)) (length new) new old [] machine last false (omega arith) (old_width ∙ sym new_width) (omega (arith, new_width))
-          (All-head IsWellFormed new news news_formed) (record { owed = None; is_owed = tt; formed = old_formed }) refl (All-head AreBytes new news bytes) start in
+      (All-head IsWellFormed new news news_formed) (record { owed = None; is_owed = tt; formed = old_formed }) refl (All-head AreBytes new news bytes) start in
       let here = subst (λ m. Stands (fed machine (written last m)) (screen_with size (done ++ new ∷ olds)) (pen_after last m) 0 0 false) marks led in
       let next = fed machine (written last first) in
       let below : length (done ++ new ∷ []) ≡ y + 1 = length-append done (new ∷ []) in
       let more = rows_marks whole (y + 1) olds news in
       let others = rows_lead news olds (done ++ new ∷ []) next (pen_after last first) (omega (arith, lens)) (omega (arith, total, below))
-          (All-tail (HasWidth size.width) old olds old_widths) (All-tail (HasWidth size.width) new news new_widths) (All-tail IsWellFormed old olds olds_formed) (All-tail IsWellFormed new news news_formed)
-          (All-tail AreBytes new news bytes)
-          (subst (λ rows. Stands next (screen_with size rows) (pen_after last first) 0 0 false) (sym (append_assoc done (new ∷ []) olds)) here) in
+      (All-tail (HasWidth size.width) old olds old_widths) (All-tail (HasWidth size.width) new news new_widths) (All-tail IsWellFormed old olds olds_formed) (All-tail IsWellFormed new news news_formed)
+      (All-tail AreBytes new news bytes)
+      (subst (λ rows. Stands next (screen_with size rows) (pen_after last first) 0 0 false) (sym (append_assoc done (new ∷ []) olds)) here) in
       let named = subst (λ r. Stands (fed next (written (pen_after last first) (rows_marks whole r olds news))) (screen_with size ((done ++ new ∷ []) ++ news)) (pen_after (pen_after last first) (rows_marks whole r olds news)) 0 0 false) below others in
       let all : fed machine (written last (first ++ more)) ≡ fed next (written (pen_after last first) more) =
       ap (fed machine) (written-append last first more) ∙ fed-append machine (written last first) (written (pen_after last first) more) in
       subst (λ m. Stands m (screen_with size (done ++ new ∷ news)) (pen_after last (first ++ more)) 0 0 false) (sym all)
       (subst (λ p. Stands (fed next (written (pen_after last first) more)) (screen_with size (done ++ new ∷ news)) p 0 0 false) (sym (pen_after-append last first more))
-          (subst (λ rows. Stands (fed next (written (pen_after last first) more)) (screen_with size rows) (pen_after (pen_after last first) more) 0 0 false) (append_assoc done (new ∷ []) news) named))
+      (subst (λ rows. Stands (fed next (written (pen_after last first) more)) (screen_with size rows) (pen_after (pen_after last first) more) 0 0 false) (append_assoc done (new ∷ []) news) named))
 
 -- ---- what is shown
 
@@ -88,8 +88,8 @@ grid_leads machine whole shown next old new same stands =
     let widths = subst (λ (s : Size). All (HasWidth s.width) shown.rows) same old.width in
     let heights : length shown.rows ≡ length next.rows = old.height ∙ ap (λ (s : Size). s.height) same ∙ sym new.formed.height in
     Shows-from_Stands _ next _ (rows_lead size whole new.height new.width next.rows shown.rows [] machine None heights (omega (arith, new.formed.height))
-        widths new.formed.width old.formed new.formed.formed new.bytes
-        (subst (λ s. Stands machine (screen_with s shown.rows) None 0 0 false) same stands))
+    widths new.formed.width old.formed new.formed.formed new.bytes
+    (subst (λ s. Stands machine (screen_with s shown.rows) None 0 0 false) same stands))
 
 -- ---- the laws
 

@@ -1,5 +1,5 @@
 -- Numbers are read back as they were written.
-use Rattle.std.proofs.Common.{◌≡◌, ◌≢◌, ◌≤◌, ◌<◌, ◌+◌, ◌-◌, ◌*◌, ◌/◌, ◌%◌, ◌^◌, ◌==◌, ℕ, zero, suc, List, [], ◌∷◌, ◌++◌, length, Bool, true, false, refl, arith, ap, sym, ◌∙◌, ◌&&◌, cond, nat_le, nat_lt, min, append_assoc, append-nil, length-append, Option, Some, None, unwrap_or, option_and_then, subst}
+use Rattle.std.proofs.Common.{◌≡◌, ◌≢◌, ◌≤◌, ◌<◌, ◌+◌, ◌*◌, ◌/◌, ◌%◌, ◌^◌, ◌==◌, ℕ, zero, suc, List, [], ◌∷◌, ◌++◌, length, Bool, true, false, refl, arith, ap, ◌∙◌, ◌&&◌, cond, nat_le, Option, Some, None, unwrap_or}
 use Rattle.std.proofs.Math.Nat.{pow-suc}
 use Rattle.std.proofs.lemmas.Bool.{le-leb, lt-ltb, eqb-true, eqb-false}
 use Rattle.std.proofs.lemmas.Fmt.{length-decimal-le}
@@ -8,7 +8,7 @@ use Rattle.std.specs.Fmt.{decimal, digits, digits_onto, digit_glyph}
 use Rattle.std.specs.Int.{is_in_range}
 use Rattle.std.specs.List.{list_all}
 use Rattle.tx_term.proofs.FeedLemmas.{AreParameters}
-use Rattle.tx_term.specs.Sequence.{numbers_behind, with_digit, with_number}
+use Rattle.tx_term.specs.Sequence.{numbers_behind, with_digit}
 
 within : (low high a : ℕ) → low ≤ a → a ≤ high → is_in_range low high a ≡ true
 within low high a above below = ap (λ b. b && nat_le a high) (le-leb low a above) ∙ le-leb a high below
@@ -37,7 +37,7 @@ digits_read (suc k) n acc rest before small some bounded =
   where
     by : (last : Bool) → (n / 10 == 0) ≡ last
         → (n / 10 < 10 ^ k → 0 < k + n / 10
-            → numbers_behind before None (digits_onto k 10 false (n / 10) (digit_glyph false (n % 10) ∷ acc) ++ rest) ≡ numbers_behind before (Some (n / 10)) ((digit_glyph false (n % 10) ∷ acc) ++ rest))
+        → numbers_behind before None (digits_onto k 10 false (n / 10) (digit_glyph false (n % 10) ∷ acc) ++ rest) ≡ numbers_behind before (Some (n / 10)) ((digit_glyph false (n % 10) ∷ acc) ++ rest))
         → numbers_behind before None (cond last (digit_glyph false (n % 10) ∷ acc) (digits_onto k 10 false (n / 10) (digit_glyph false (n % 10) ∷ acc)) ++ rest) ≡ numbers_behind before (Some n) (acc ++ rest)
     by true is others = let none = eqb-true _ _ is in digit_read before None (n % 10) n (acc ++ rest) (omega arith) (omega (arith, none)) bounded
     by false is others =

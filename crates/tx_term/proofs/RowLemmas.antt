@@ -1,5 +1,5 @@
 -- The rows of an update, as they are read.
-use Rattle.std.proofs.Common.{◌≡◌, ◌≤◌, ◌<◌, ◌+◌, ℕ, zero, suc, List, [], ◌∷◌, ◌++◌, length, take, drop, zip, Bool, true, false, not, refl, arith, ap, ap₂, sym, ◌∙◌, ◌&&◌, ◌||◌, cond, nat_lt, append_assoc, append-nil, length-append, Option, Some, None, subst}
+use Rattle.std.proofs.Common.{◌≡◌, ◌≤◌, ◌<◌, ◌+◌, ℕ, zero, suc, List, [], ◌∷◌, ◌++◌, length, take, drop, zip, Bool, true, false, not, refl, arith, ap, ap₂, sym, ◌∙◌, ◌&&◌, ◌||◌, cond, nat_lt, append_assoc, length-append, Option, Some, None, subst}
 use Rattle.std.proofs.Math.Seq.{take_at, drop_at, drop-drop}
 use Rattle.std.proofs.lemmas.Bool.{ltb-true, ltb-false}
 use Rattle.std.proofs.lemmas.List.Elements.{All-head, All-tail}
@@ -8,7 +8,6 @@ use Rattle.std.specs.Prelude.{⊤}
 use Rattle.tx_cell.proofs.MadeLemmas.{cell_of-IsMade}
 use Rattle.tx_cell.specs.Cell.{CellValue, IsOfItsText, tail_of}
 use Rattle.tx_cell.specs.Grid.{GridValue, changed_at, with_put}
-use Rattle.tx_cell.specs.Laws.{IsMade}
 use Rattle.tx_cell.specs.Same.{cell_eq, cell_eq-decides}
 use Rattle.tx_cell.specs.Strip.{IsWellFormed, IsWellFormedAfter, owed_tail, with_tail, without_tail, without_head, cut_end, cut_front, laid}
 use Rattle.tx_cell.specs.declared.pen.Pen.{Pen}
@@ -19,7 +18,7 @@ use Rattle.tx_term.proofs.UnitLemmas.{Stands, Stands-unit}
 use Rattle.tx_term.specs.Drawing.{pen_after, rest_marks, unit_marks}
 use Rattle.tx_term.specs.Laws.{HasByteChannels}
 use Rattle.tx_term.specs.Machine.{Machine, fed}
-use Rattle.tx_term.specs.Update.{Mark, Move, Write, Unit, written, units, unit_differs, first_differ, is_plain_cell}
+use Rattle.tx_term.specs.Update.{Mark, Move, Write, written, units, unit_differs, first_differ, is_plain_cell}
 
 -- ---- lists
 
@@ -163,7 +162,7 @@ module _ (size : Size) (before after : List (List CellValue)) (whole : Bool) (hi
       ap (λ rows. record { size = size; rows = rows }) (changed_at-middle (laid x (with_tail cell)) before after (done ++ cut_front olds) ∙ ap (λ row. before ++ row ∷ after) here) in
       let moved = Stands-unit machine (with_row (done ++ cut_front olds)) last y x behind_plain cell stands own bytes below inside high broad in
       let led = others next (Some cell.pen) (is_plain_cell cell) (subst (λ c. Stands next (with_row ((done ++ with_tail cell) ++ cut_front olds')) (Some cell.pen) y c (is_plain_cell cell)) (sym long)
-          (subst (λ g. Stands next g (Some cell.pen) y (x + cell.width) (is_plain_cell cell)) put moved)) in
+      (subst (λ g. Stands next g (Some cell.pen) y (x + cell.width) (is_plain_cell cell)) put moved)) in
       let all : fed machine (written last (marks_from behind_plain done olds news)) ≡ fed next (written (Some cell.pen) more) =
       ap (λ m. fed machine (written last m)) marks ∙ ap (fed machine) (written-append last first more) ∙ fed-append machine (written last first) (written (pen_after last first) more)
       ∙ ap (λ p. fed next (written p more)) pen in
@@ -172,7 +171,7 @@ module _ (size : Size) (before after : List (List CellValue)) (whole : Bool) (hi
       let row : done ++ news ≡ (done ++ with_tail cell) ++ rest = ap (λ l. done ++ l) split ∙ sym (append_assoc done (with_tail cell) rest) in
       subst (λ m. Stands m (with_row (done ++ news)) (pen_after last (marks_from behind_plain done olds news)) 0 0 false) (sym all)
       (subst (λ p. Stands (fed next (written (Some cell.pen) more)) (with_row (done ++ news)) p 0 0 false) (sym last_pen)
-          (subst (λ r. Stands (fed next (written (Some cell.pen) more)) (with_row r) (pen_after (Some cell.pen) more) 0 0 false) (sym row) led))
+      (subst (λ r. Stands (fed next (written (Some cell.pen) more)) (with_row r) (pen_after (Some cell.pen) more) 0 0 false) (sym row) led))
   unit_then cell news olds rest olds' done machine last behind_plain false own bytes inside long are split here same others stands =
       let y = length before in
       let x = length done in
@@ -204,16 +203,16 @@ module _ (size : Size) (before after : List (List CellValue)) (whole : Bool) (hi
       (ap (λ l. l ++ news) (sym alone))
       (ap (λ l. laid (length done) l (done ++ cut_front (o ∷ olds))) alone ∙ laid-behind done c [] (cut_front (o ∷ olds)) closed ∙ ap (λ l. (done ++ l) ++ cut_front olds) (sym alone))
       (λ equal.
-          let same : o ≡ c = same_first whole o c (zip olds news) equal in
-          let behind = behind_head c olds rest.owed head rest.is_owed (subst (λ f. IsWellFormedAfter rest.owed (f ∷ olds)) same rest.formed) in
-          ap (λ f. done ++ f ∷ olds) (ap without_head same ∙ without_head-own c head)
-          ∙ sym (append_assoc done (c ∷ []) olds)
-          ∙ ap₂ (λ l r. (done ++ l) ++ r) (sym alone) (sym (cut_front-formed olds (formed_narrow c olds narrow behind))))
+      let same : o ≡ c = same_first whole o c (zip olds news) equal in
+      let behind = behind_head c olds rest.owed head rest.is_owed (subst (λ f. IsWellFormedAfter rest.owed (f ∷ olds)) same rest.formed) in
+      ap (λ f. done ++ f ∷ olds) (ap without_head same ∙ without_head-own c head)
+      ∙ sym (append_assoc done (c ∷ []) olds)
+      ∙ ap₂ (λ l r. (done ++ l) ++ r) (sym alone) (sym (cut_front-formed olds (formed_narrow c olds narrow behind))))
       (λ next last' behind' stands'.
-          leads news olds (done ++ with_tail c) next last' behind' (omega (arith, few)) (omega (arith, lens)) (omega (arith, total, long))
-          (formed_narrow c news narrow formed.1) (IsRest-tail o olds rest)
-          (ap (λ l. cut_end (done ++ l)) alone ∙ cut_end-append done c [] ∙ ap (λ f. done ++ f ∷ []) (kept c narrow) ∙ ap (λ l. done ++ l) (sym alone))
-          (All-tail HasBytes c news bytes) stands')
+      leads news olds (done ++ with_tail c) next last' behind' (omega (arith, few)) (omega (arith, lens)) (omega (arith, total, long))
+      (formed_narrow c news narrow formed.1) (IsRest-tail o olds rest)
+      (ap (λ l. cut_end (done ++ l)) alone ∙ cut_end-append done c [] ∙ ap (λ f. done ++ f ∷ []) (kept c narrow) ∙ ap (λ l. done ++ l) (sym alone))
+      (All-tail HasBytes c news bytes) stands')
       stands
     where
       kept : (cell : CellValue) → nat_lt 1 cell.width ≡ false → without_tail cell ≡ cell
@@ -239,21 +238,21 @@ module _ (size : Size) (before after : List (List CellValue)) (whole : Bool) (hi
       unit_then c (c ∷ t ∷ news) (o ∷ p ∷ olds) news olds done machine last behind_plain differs own (All-head HasBytes c (t ∷ news) bytes)
       (omega (arith, two, total)) (long ∙ ap (λ w. length done + w) (sym two))
       (units-head whole (length done) o c (zip (p ∷ olds) (t ∷ news)) head
-          ∙ ap (λ u. record { column = length done; cell = c; differs = differs } ∷ u) (units-tail whole (length done + 1) p t (zip olds news) (ap (λ (f : CellValue). f.tail) is_tail)
-          ∙ ap (λ k. units whole k (zip olds news)) (omega (arith, long))))
+      ∙ ap (λ u. record { column = length done; cell = c; differs = differs } ∷ u) (units-tail whole (length done + 1) p t (zip olds news) (ap (λ (f : CellValue). f.tail) is_tail)
+      ∙ ap (λ k. units whole k (zip olds news)) (omega (arith, long))))
       (ap (λ f. c ∷ f ∷ news) is_tail ∙ ap (λ l. l ++ news) (sym both))
       (ap (λ l. laid (length done) l (done ++ cut_front (o ∷ p ∷ olds))) both ∙ laid-behind done c (tail ∷ []) (cut_front (o ∷ p ∷ olds)) closed ∙ ap (λ l. (done ++ l) ++ cut_front olds) (sym both))
       (λ equal.
-          let same : o ≡ c = same_first whole o c (zip (p ∷ olds) (t ∷ news)) equal in
-          let behind = formed_wide c (p ∷ olds) wide (behind_head c (p ∷ olds) rest.owed head rest.is_owed (subst (λ f. IsWellFormedAfter rest.owed (f ∷ p ∷ olds)) same rest.formed)) in
-          ap₂ (λ f g. done ++ f ∷ g ∷ olds) (ap without_head same ∙ without_head-own c head) behind.0
-          ∙ sym (append_assoc done (c ∷ tail ∷ []) olds)
-          ∙ ap₂ (λ l r. (done ++ l) ++ r) (sym both) (sym (cut_front-formed olds behind.1)))
+      let same : o ≡ c = same_first whole o c (zip (p ∷ olds) (t ∷ news)) equal in
+      let behind = formed_wide c (p ∷ olds) wide (behind_head c (p ∷ olds) rest.owed head rest.is_owed (subst (λ f. IsWellFormedAfter rest.owed (f ∷ p ∷ olds)) same rest.formed)) in
+      ap₂ (λ f g. done ++ f ∷ g ∷ olds) (ap without_head same ∙ without_head-own c head) behind.0
+      ∙ sym (append_assoc done (c ∷ tail ∷ []) olds)
+      ∙ ap₂ (λ l r. (done ++ l) ++ r) (sym both) (sym (cut_front-formed olds behind.1)))
       (λ next last' behind' stands'.
-          leads news olds (done ++ with_tail c) next last' behind' (omega (arith, few)) (omega (arith, lens)) (omega (arith, total, long))
-          behind_new.1 (IsRest-tail p olds (IsRest-tail o (p ∷ olds) rest))
-          (ap (λ l. cut_end (done ++ l)) both ∙ cut_end-append done c (tail ∷ []) ∙ ap (λ l. done ++ l) (sym both))
-          (All-tail HasBytes t news (All-tail HasBytes c (t ∷ news) bytes)) stands')
+      leads news olds (done ++ with_tail c) next last' behind' (omega (arith, few)) (omega (arith, lens)) (omega (arith, total, long))
+      behind_new.1 (IsRest-tail p olds (IsRest-tail o (p ∷ olds) rest))
+      (ap (λ l. cut_end (done ++ l)) both ∙ cut_end-append done c (tail ∷ []) ∙ ap (λ l. done ++ l) (sym both))
+      (All-tail HasBytes t news (All-tail HasBytes c (t ∷ news) bytes)) stands')
       stands
 
   row_by : (n : ℕ) → RowLeads n → (wide : Bool) (c o : CellValue) (news olds done : List CellValue) (machine : Machine) (last : Option Pen) (behind_plain : Bool)

@@ -1,5 +1,5 @@
 -- The sequences of an update, as they are read back.
-use Rattle.std.proofs.Common.{◌≡◌, ◌≤◌, ◌<◌, ◌+◌, ◌-◌, ◌==◌, ℕ, zero, suc, List, [], ◌∷◌, ◌++◌, length, Bool, true, false, refl, arith, ap, sym, ◌∙◌, ◌&&◌, cond, nat_le, nat_lt, append_assoc, append-nil, length-append, Option, Some, None, option_and_then, codes}
+use Rattle.std.proofs.Common.{◌≡◌, ◌≤◌, ◌<◌, ℕ, List, [], ◌∷◌, ◌++◌, length, Bool, true, false, refl, arith, ap, sym, ◌∙◌, ◌&&◌, cond, nat_le, nat_lt, append_assoc, append-nil, length-append, Some, None, codes}
 use Rattle.std.proofs.lemmas.Bool.{le-leb, lt-ltb}
 use Rattle.std.specs.Fmt.{decimal}
 use Rattle.tx_cell.specs.declared.pen.Pen.{Pen}
@@ -11,8 +11,7 @@ use Rattle.tx_term.specs.Canvas.{moved, put_held}
 use Rattle.tx_term.specs.Laws.{HasByteChannels}
 use Rattle.tx_term.specs.Machine.{Machine, fed, ended, run}
 use Rattle.tx_term.specs.Sequence.{numbers_behind, numbers_of, with_settings, move_command, pen_command, command_of_pen, command_of}
-use Rattle.tx_term.specs.Update.{move_bytes, pen_bytes, style_bytes, channel_bytes, csi}
-use Rattle.tx_term.specs.declared.machine.command.Command.{Command}
+use Rattle.tx_term.specs.Update.{move_bytes, pen_bytes, style_bytes, csi}
 use Rattle.tx_term.specs.declared.machine.command.Command.TheVariants.{Nothing, Move, SetPen}
 
 -- ---- the move
@@ -41,7 +40,7 @@ fed-move machine row column row_small column_small row_some column_some =
     let parameters = decimal row ++ (59 ∷ decimal column) in
     ap (fed machine) (regroup_move (decimal row) (decimal column))
     ∙ fed-sequence machine parameters 72 (AreParameters-append (decimal row) (59 ∷ decimal column) (decimal_stands row) (decimal_stands column))
-        (omega (arith, length-append (decimal row) (59 ∷ decimal column), length-decimal5 row row_small, length-decimal5 column column_small)) refl
+    (omega (arith, length-append (decimal row) (59 ∷ decimal column), length-decimal5 row row_small, length-decimal5 column column_small)) refl
     ∙ ap (λ command. run command (ended machine)) (move_asked row column machine.canvas.pen row_small column_small row_some column_some)
 
 -- ---- the pen
@@ -195,8 +194,8 @@ settings_read false false false false false false fore back pen r g b r' g' b' =
 abbrev pen_parameters : Pen → List ℕ
 pen_parameters pen =
     48 ∷ (style_bytes pen.style
-        ++ (codes ";38;2;" ++ (decimal pen.fore.r ++ (59 ∷ (decimal pen.fore.g ++ (59 ∷ (decimal pen.fore.b
-        ++ (codes ";48;2;" ++ (decimal pen.back.r ++ (59 ∷ (decimal pen.back.g ++ (59 ∷ decimal pen.back.b))))))))))))
+    ++ (codes ";38;2;" ++ (decimal pen.fore.r ++ (59 ∷ (decimal pen.fore.g ++ (59 ∷ (decimal pen.fore.b
+    ++ (codes ";48;2;" ++ (decimal pen.back.r ++ (59 ∷ (decimal pen.back.g ++ (59 ∷ decimal pen.back.b))))))))))))
 
 regroup_pen : (start style before r g b between r' g' b' mark last : List ℕ)
     → start ++ style ++ before ++ (r ++ mark ++ g ++ mark ++ b) ++ between ++ (r' ++ mark ++ g' ++ mark ++ b') ++ last
@@ -229,7 +228,7 @@ pen_asked pen present bytes =
     let style = pen.style in
     ap (λ numbers. pen_command numbers present) (pen_read pen bytes)
     ∙ ap command_of_pen (settings_read style.bold style.dim style.italic style.underline style.reverse style.strike pen.fore pen.back present
-        (le-leb _ _ bytes.fore_r) (le-leb _ _ bytes.fore_g) (le-leb _ _ bytes.fore_b) (le-leb _ _ bytes.back_r) (le-leb _ _ bytes.back_g) (le-leb _ _ bytes.back_b))
+    (le-leb _ _ bytes.fore_r) (le-leb _ _ bytes.fore_g) (le-leb _ _ bytes.fore_b) (le-leb _ _ bytes.back_r) (le-leb _ _ bytes.back_g) (le-leb _ _ bytes.back_b))
 
 style_fits : (bold dim italic underline reverse strike : Bool)
     → AreParameters (style_bytes (style_with bold dim italic underline reverse strike)) × (length (style_bytes (style_with bold dim italic underline reverse strike)) ≤ 12)
@@ -313,9 +312,10 @@ pen_stands pen bytes =
     let red' = AreParameters-append r' (59 ∷ (g' ++ (59 ∷ b'))) (decimal_stands pen.back.r) green' in
     let blue = AreParameters-append b (codes ";48;2;" ++ (r' ++ (59 ∷ (g' ++ (59 ∷ b'))))) (decimal_stands pen.fore.b) red' in
     let green = AreParameters-append g (59 ∷ (b ++ (codes ";48;2;" ++ (r' ++ (59 ∷ (g' ++ (59 ∷ b'))))))) (decimal_stands pen.fore.g) blue in
-    let red = AreParameters-append r (59 ∷ (g ++ (59 ∷ (b ++ (codes ";48;2;" ++ (r' ++ (59 ∷ (g' ++ (59 ∷ b'))))))))) (decimal_stands pen.fore.r) green in
-    (AreParameters-append (style_bytes style) (codes ";38;2;" ++ (r ++ (59 ∷ (g ++ (59 ∷ (b ++ (codes ";48;2;" ++ (r' ++ (59 ∷ (g' ++ (59 ∷ b')))))))))))  fits.0 red,
-    lengths (style_bytes style) r g b r' g' b' fits.1 (length-decimal3 _ bytes.fore_r) (length-decimal3 _ bytes.fore_g) (length-decimal3 _ bytes.fore_b) (length-decimal3 _ bytes.back_r) (length-decimal3 _ bytes.back_g) (length-decimal3 _ bytes.back_b))
+    let red = AreParameters-append r (59 ∷ (g ++ (59 ∷ (b ++ (codes ";48;2;" ++ (r' ++ (59 ∷ (g' ++ (59 ∷ b'))))))))) (decimal_stands pen.fore.r) green in (
+      AreParameters-append (style_bytes style) (codes ";38;2;" ++ (r ++ (59 ∷ (g ++ (59 ∷ (b ++ (codes ";48;2;" ++ (r' ++ (59 ∷ (g' ++ (59 ∷ b'))))))))))) fits.0 red,
+      lengths (style_bytes style) r g b r' g' b' fits.1 (length-decimal3 _ bytes.fore_r) (length-decimal3 _ bytes.fore_g) (length-decimal3 _ bytes.fore_b) (length-decimal3 _ bytes.back_r) (length-decimal3 _ bytes.back_g) (length-decimal3 _ bytes.back_b),
+    )
   where
     lengths : (style r g b r' g' b' : List ℕ) → length style ≤ 12 → length r ≤ 3 → length g ≤ 3 → length b ≤ 3 → length r' ≤ 3 → length g' ≤ 3 → length b' ≤ 3
         → length (48 ∷ (style ++ (codes ";38;2;" ++ (r ++ (59 ∷ (g ++ (59 ∷ (b ++ (codes ";48;2;" ++ (r' ++ (59 ∷ (g' ++ (59 ∷ b'))))))))))))) ≤ 61
@@ -327,6 +327,6 @@ pub fed-pen : (machine : Machine) (pen : Pen) → HasByteChannels pen
 fed-pen machine pen bytes =
     let stands = pen_stands pen bytes in
     ap (fed machine) (regroup_pen (csi ++ codes "0") (style_bytes pen.style) (codes ";38;2;") (decimal pen.fore.r) (decimal pen.fore.g) (decimal pen.fore.b)
-        (codes ";48;2;") (decimal pen.back.r) (decimal pen.back.g) (decimal pen.back.b) (codes ";") (codes "m"))
+    (codes ";48;2;") (decimal pen.back.r) (decimal pen.back.g) (decimal pen.back.b) (codes ";") (codes "m"))
     ∙ fed-sequence machine (pen_parameters pen) 109 stands.0 stands.1 refl
     ∙ ap (λ command. run command (ended machine)) (pen_asked pen machine.canvas.pen bytes)

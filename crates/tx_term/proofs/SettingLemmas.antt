@@ -1,5 +1,5 @@
 -- The numbers of a sequence as parts of a slice.
-use Rattle.std.proofs.Common.{◌≡◌, ◌+◌, ◌-◌, ◌≤◌, ◌<◌, ℕ, List, [], ◌∷◌, length, take, drop, get_or, Bool, true, false, refl, arith, ap, sym, ◌∙◌, Option, Some, cond, option_and_then}
+use Rattle.std.proofs.Common.{◌≡◌, ◌-◌, ◌≤◌, ◌<◌, ℕ, List, [], ◌∷◌, length, take, drop, get_or, true, false, refl, arith, ap, sym, ◌∙◌, Some, option_and_then}
 use Rattle.std.proofs.lemmas.Grind.{common_steps}
 use Rattle.tx_cell.specs.declared.pen.Pen.{Pen}
 use Rattle.tx_term.specs.Sequence.{with_mark, is_colour, with_colour, with_settings}

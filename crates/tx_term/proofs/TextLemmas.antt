@@ -1,11 +1,11 @@
 -- Characters and texts, as they are read.
-use Rattle.std.proofs.Common.{◌≡◌, ◌≢◌, ◌≤◌, ◌<◌, ◌+◌, ◌-◌, ◌*◌, ◌/◌, ◌%◌, ◌==◌, ℕ, zero, suc, List, [], ◌∷◌, ◌++◌, length, take, drop, Bool, true, false, refl, arith, ap, sym, ◌∙◌, ◌&&◌, ◌||◌, cond, nat_le, nat_lt, append_assoc, append-nil, length-append, Option, Some, None, is_none, subst}
-use Rattle.std.proofs.lemmas.Bool.{le-leb, leb-true, leb-false, lt-leb, lt-ltb, le-ltb, ltb-true, ltb-false, ne_eqb, eqb-true, eqb-false}
-use Rattle.std.proofs.lemmas.Str.{IsUtf8-encode, is_utf8-from_IsUtf8, IsUtf8-from_is_utf8, chars-encodes}
+use Rattle.std.proofs.Common.{◌≡◌, ◌≢◌, ◌≤◌, ◌<◌, ◌+◌, ◌/◌, ◌%◌, ◌==◌, ℕ, List, [], ◌∷◌, Bool, true, false, refl, arith, ap, ◌∙◌, ◌&&◌, ◌||◌, cond, nat_le, nat_lt, subst}
+use Rattle.std.proofs.lemmas.Bool.{le-leb, leb-true, leb-false, le-ltb, ltb-true, ltb-false, ne_eqb, eqb-true}
+use Rattle.std.proofs.lemmas.Str.{IsUtf8-encode, is_utf8-from_IsUtf8}
 use Rattle.std.specs.Char.{is_control}
 use Rattle.std.specs.Int.{is_in_range}
 use Rattle.std.specs.List.{list_any}
-use Rattle.std.specs.Str.{IsUtf8, is_utf8, chars, chars_after, continuation_len, lead_bits}
+use Rattle.std.specs.Str.{is_utf8, chars}
 use Rattle.std.specs.Str.Lossy.{utf8_valid_len, utf8_error_len, second_byte_min, second_byte_max}
 use mathlib.Core.Logic.{⊎_elim}
 use lib.Utf8.{scalar, scalars, encode, encodes, scalar_cases}
@@ -13,8 +13,7 @@ use Rattle.tx_cell.specs.Pen.{and_first, and_second}
 use Rattle.tx_term.proofs.FeedLemmas.{fed-append, fed-cons, fed-nothing}
 use Rattle.tx_term.proofs.MachineLemmas.{with_bytes-whole, with_bytes-cut}
 use Rattle.tx_term.specs.Canvas.{CanvasValue, with_character}
-use Rattle.tx_term.specs.Machine.{Machine, fed, step, stage_of, byte_in, longer_by, is_control_byte, is_cut, with_bytes}
-use Rattle.tx_term.specs.declared.machine.unfinished.Stage.{Stage}
+use Rattle.tx_term.specs.Machine.{Machine, fed, step, stage_of, longer_by, is_control_byte, is_cut, with_bytes}
 use Rattle.tx_term.specs.declared.machine.unfinished.Stage.TheVariants.{InText}
 
 -- ---- bytes that are no text yet
@@ -208,13 +207,13 @@ fed-encode_by machine c false false true is1 is2 is3 ready is high no_delete =
     let low = ltb-false c 2048 is2 in
     let top = ltb-true c 65536 is3 in
     rw (is1, is2, is3) (fed-three machine (224 + c / 4096) (128 + c / 64 % 64) (128 + c % 64) ready (omega arith) (omega arith) (omega arith) (within 0xC2 0xF4 (224 + c / 4096) (omega arith) (omega arith))
-        (second_fits (224 + c / 4096) (128 + c / 64 % 64) (λ same. omega arith) (λ same. absurd (omega arith)) (omega arith) (λ same. below_surrogates c is (omega arith)) (λ same. absurd (omega arith)) (omega arith)) (rw (is1, is2, is3) at whole))
+    (second_fits (224 + c / 4096) (128 + c / 64 % 64) (λ same. omega arith) (λ same. absurd (omega arith)) (omega arith) (λ same. below_surrogates c is (omega arith)) (λ same. absurd (omega arith)) (omega arith)) (rw (is1, is2, is3) at whole))
 fed-encode_by machine c false false false is1 is2 is3 ready is high no_delete =
     let whole = encode_utf8 c is in
     let low = ltb-false c 65536 is3 in
     let top : c < 1114112 = below_all c is in
     rw (is1, is2, is3) (fed-four machine (240 + c / 262144) (128 + c / 4096 % 64) (128 + c / 64 % 64) (128 + c % 64) ready (omega arith) (omega arith) (within 0x80 0xBF (128 + c / 64 % 64) (omega arith) (omega arith)) (omega arith) (omega arith) (within 0xC2 0xF4 (240 + c / 262144) (omega arith) (omega arith))
-        (second_fits (240 + c / 262144) (128 + c / 4096 % 64) (λ same. absurd (omega arith)) (λ same. omega arith) (omega arith) (λ same. absurd (omega arith)) (λ same. omega arith) (omega arith)) (rw (is1, is2, is3) at whole))
+    (second_fits (240 + c / 262144) (128 + c / 4096 % 64) (λ same. absurd (omega arith)) (λ same. omega arith) (omega arith) (λ same. absurd (omega arith)) (λ same. omega arith) (omega arith)) (rw (is1, is2, is3) at whole))
 
 -- a character that isn't a control character is taken
 pub fed-encode : (machine : Machine) (c : ℕ) → machine.unfinished ≡ [] → scalar c ≡ true → is_control c ≡ false → fed machine (encode c) ≡ taken machine (encode c)

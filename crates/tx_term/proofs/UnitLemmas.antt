@@ -1,15 +1,14 @@
 -- A unit of an update, as it is read.
-use Rattle.std.proofs.Common.{◌≡◌, ◌≤◌, ◌<◌, ◌+◌, ◌-◌, ◌==◌, ℕ, zero, suc, min, List, [], ◌∷◌, ◌++◌, length, Bool, true, false, refl, arith, ap, sym, ◌∙◌, ◌&&◌, ◌||◌, cond, nat_le, nat_lt, append_assoc, append-nil, Option, Some, None, subst}
+use Rattle.std.proofs.Common.{◌≡◌, ◌≤◌, ◌<◌, ◌+◌, ◌-◌, ◌==◌, ℕ, min, List, [], ◌∷◌, ◌++◌, length, Bool, true, false, refl, arith, ap, sym, ◌∙◌, ◌&&◌, cond, append-nil, Option, Some, None, subst}
 use Rattle.std.specs.Prelude.{⊤}
 use Rattle.std.proofs.lemmas.Bool.{le-leb, eqb-true}
 use Rattle.std.specs.List.{list_all}
 use Rattle.std.specs.Str.{chars}
-use mathlib.Core.Logic.{◌⊎◌, inl, inr}
+use mathlib.Core.Logic.{inl, inr}
 use Rattle.tx_cell.proofs.MadeLemmas.{cell_of-IsMade}
 use Rattle.tx_cell.specs.Cell.{CellValue, IsOfItsText, begins_plain, cell_of}
 use Rattle.tx_cell.specs.Grid.{GridValue, with_put}
-use Rattle.tx_cell.specs.Laws.{IsMade}
-use Rattle.tx_cell.specs.Pen.{and_first, and_second, pen_eq, pen_eq-decides}
+use Rattle.tx_cell.specs.Pen.{and_first, and_second, pen_eq-decides}
 use Rattle.tx_cell.specs.Plain.{is_plain}
 use Rattle.tx_cell.specs.declared.pen.Pen.{Pen}
 use Rattle.tx_term.proofs.CanvasLemmas.{held-put_held}
@@ -20,7 +19,7 @@ use Rattle.tx_term.specs.Canvas.{CanvasValue, put_held, moved, fitting, drawn, c
 use Rattle.tx_term.specs.Drawing.{unit_marks}
 use Rattle.tx_term.specs.Laws.{HasByteChannels}
 use Rattle.tx_term.specs.Machine.{Machine, fed, ended}
-use Rattle.tx_term.specs.Update.{Mark, Move, Write, written, cell_bytes, is_last_pen, is_plain_cell, move_bytes, pen_bytes}
+use Rattle.tx_term.specs.Update.{Move, Write, written, cell_bytes, is_last_pen, is_plain_cell, move_bytes, pen_bytes}
 
 -- the pen of the last unit is the present one, if there was one
 abbrev pub IsLast : Option Pen → Pen → Type 0

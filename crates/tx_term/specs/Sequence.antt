@@ -1,9 +1,7 @@
 -- Control sequences of ECMA-48: the numbers in them, and what each of them asks for.
 use Rattle.std.specs.Prelude.{ℕ, ◌+◌, ◌-◌, ◌*◌, ◌==◌, nat_le, nat_lt, min, Bool, true, false, ◌&&◌, ◌||◌, List, [], ◌∷◌, ◌++◌, Option, Some, None, unwrap_or, option_and_then, if◌then◌else◌}
 use Rattle.std.specs.Char.{is_ascii_digit}
-use Rattle.tx_geom.specs.declared.colours.Rgb.{Rgb}
 use Rattle.tx_cell.specs.declared.pen.Pen.{Pen}
-use Rattle.tx_cell.specs.declared.pen.TextStyle.{TextStyle}
 use Rattle.tx_term.specs.declared.machine.command.Command.{Command}
 use Rattle.tx_term.specs.declared.machine.command.Command.TheVariants.{Nothing, Move, Erase, SetPen, ShowCursor, Alternate}
 

@@ -8,8 +8,7 @@ ghost use Rattle.tx_term.specs.Laws.{UpdatesLead, WholeUpdatesLead};
 /// put is that one.
 pub fn updates_lead()
     ensures law { UpdatesLead }
-{
-}
+{}
 
 /// A whole update leads a terminal to the next grid from any state whatever.
 ///
@@ -17,5 +16,4 @@ pub fn updates_lead()
 /// that size.
 pub fn whole_updates_lead()
     ensures law { WholeUpdatesLead }
-{
-}
+{}

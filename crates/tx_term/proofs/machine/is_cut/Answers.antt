@@ -1,4 +1,4 @@
-use Rattle.std.proofs.Common.{◌≡◌, sym, ◌∙◌, ap, drop, is_none}
+use Rattle.std.proofs.Common.{◌∙◌, ap, drop, is_none}
 use Rattle.std.proofs.lemmas.Str.{is_utf8-from_IsUtf8}
 use Rattle.std.specs.Str.Lossy.{utf8_error_len}
 use Rattle.tx_term.proofs.MachineLemmas.{none_is}

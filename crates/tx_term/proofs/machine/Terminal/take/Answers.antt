@@ -1,9 +1,8 @@
-use Rattle.std.proofs.Common.{◌≡◌, sym, ◌∙◌, ap, true, false, []}
+use Rattle.std.proofs.Common.{sym, ◌∙◌, ap, []}
 use Rattle.std.proofs.lemmas.Str.{is_utf8-from_IsUtf8}
-use Rattle.std.specs.Str.{is_utf8}
 use Rattle.tx_term.proofs.MachineLemmas.{no_text, with_bytes-whole, with_bytes-cut, with_bytes-other, either_first, either_second}
 use Rattle.tx_term.specs.Canvas.{with_character}
-use Rattle.tx_term.specs.Machine.{Machine, with_bytes}
+use Rattle.tx_term.specs.Machine.{Machine}
 use Rattle.tx_term.proofs.machine.Terminal.take.Goals as goal
 
 pub returns-in-Ok-clause-known : goal.returns-in-Ok-clause-known

@@ -1,6 +1,6 @@
-use Rattle.std.proofs.Common.{◌≡◌, sym, ◌∙◌, ap, ◌∷◌, [], true, false}
+use Rattle.std.proofs.Common.{◌≡◌, sym, ◌∙◌, ap, []}
 use Rattle.tx_term.proofs.MachineLemmas.{with_bytes-known, with_bytes-unknown, text_byte-text}
-use Rattle.tx_term.specs.Machine.{Machine, with_bytes, longer_by, text_byte}
+use Rattle.tx_term.specs.Machine.{Machine, with_bytes, longer_by}
 use Rattle.tx_term.proofs.machine.Terminal.text_byte.Goals as goal
 
 pub returns-then-take : goal.returns-then-take

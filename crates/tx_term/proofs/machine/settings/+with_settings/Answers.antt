@@ -1,6 +1,5 @@
 use Rattle.std.proofs.Common.{arith, sym, ◌∙◌}
 use Rattle.tx_term.proofs.SettingLemmas.{with_settings-colour_slice, with_settings-mark_slice, with_settings-short_slice}
-use Rattle.tx_term.specs.Sequence.{with_settings}
 use Rattle.tx_term.proofs.machine.settings.+with_settings.Goals.{in_default-rest, in-len4-up+else-is_colour}
 use Rattle.tx_term.proofs.machine.settings.+with_settings.Goals as goal
 
