@@ -1,6 +1,6 @@
 //! Cells, strips, grids and wrapped lines against tables worked out by hand.
 
-ghost use Rattle.std.specs.Prelude.{◌<◌, ◌≤◌, ◌^◌, length};
+ghost use Rattle.std.specs.Prelude.{◌≡◌, ◌+◌, ◌<◌, ◌≤◌, ◌^◌, false, length};
 ghost use Rattle.tx_cell.specs.Strip.{joined};
 
 use crate::{
@@ -409,5 +409,46 @@ fn strips_are_laid_over_rows(rt: HostRuntime) -> Result<(), Fail> {
     other.take_over(&grid);
     check_row(&rt, alloc, &other, 0, " | |x|y| |")?;
     check_row(&rt, alloc, &other, 1, " |x|y| | |")?;
+    Ok(())
+}
+
+/// Puts a cell on a grid that is the one before it, and takes it back.
+fn put_and_take_back(grid: &mut Grid, before: &Grid, x: u32, cell: Cell)
+    requires same { grid.old ≡ before.now }
+    requires row { 0 < before.now.size.height }
+    requires head { cell.tail ≡ false }
+    requires some { 1 ≤ cell.width }
+    requires columns { x + cell.width ≤ before.now.size.width }
+    ensures back { grid.new ≡ before.now }
+{
+    grid.put(x, 0, cell);
+    grid.take_back(before, x, 0);
+}
+
+#[test]
+fn a_cell_is_taken_back(rt: HostRuntime) -> Result<(), Fail> {
+    let alloc = rt.alloc();
+    let size = Size {
+        width: 5,
+        height: 2,
+    };
+    let mut before = Grid::open(alloc, size, Cell::blank(pen(1)))?;
+    put(&rt, &mut before, 0, "\u{4E16}", 2);
+    put(&rt, &mut before, 2, "\u{4E16}", 3);
+    let mut grid = Grid::open(alloc, size, Cell::blank(pen(4)))?;
+    assert!(rt; before.size() == size && grid.size() == size);
+    for (x, text) in [(1, "a"), (1, "\u{4E16}"), (3, "\u{4E16}"), (4, "a")] {
+        grid.take_over(&before);
+        if let Some(cell) = Cell::of(text, pen(5)) {
+            assert!(rt; !cell.tail() && cell.width() >= 1 && x + cell.width() <= size.width);
+            put_and_take_back(&mut grid, &before, x, cell);
+        }
+        check_row(&rt, alloc, &grid, 0, "\u{4E16}|.|\u{4E16}|.| |")?;
+        check_row(&rt, alloc, &grid, 1, " | | | | |")?;
+    }
+    grid.fill(Cell::blank(pen(6)));
+    check_row(&rt, alloc, &grid, 0, " | | | | |")?;
+    assert!(rt; grid.size() == size);
+    assert!(rt; grid.at(4, 1) == Cell::blank(pen(6)));
     Ok(())
 }
