@@ -425,30 +425,52 @@ fn put_and_take_back(grid: &mut Grid, before: &Grid, x: u32, cell: Cell)
     grid.take_back(before, x, 0);
 }
 
+fn check_taken_back(
+    rt: &impl Abort,
+    alloc: Global,
+    size: Size,
+    x: u32,
+    text: &str,
+) -> Result<(), AllocError> {
+    let mut before = Grid::open(alloc, size, Cell::blank(pen(1)))?;
+    put(rt, &mut before, 0, "\u{4E16}", 2);
+    put(rt, &mut before, 2, "\u{4E16}", 3);
+    let mut grid = Grid::open(alloc, size, Cell::blank(pen(4)))?;
+    assert!(rt; before.size() == size && grid.size() == size && size.height > 0);
+    grid.take_over(&before);
+    if let Some(cell) = Cell::of(text, pen(5)) {
+        let columns = x as u64 + cell.width() as u64;
+        assert!(rt; !cell.tail() && cell.width() >= 1 && columns <= size.width as u64);
+        put_and_take_back(&mut grid, &before, x, cell);
+    }
+    check_row(rt, alloc, &grid, 0, "\u{4E16}|.|\u{4E16}|.| |")
+}
+
 #[test]
 fn a_cell_is_taken_back(rt: HostRuntime) -> Result<(), Fail> {
-    let alloc = rt.alloc();
     let size = Size {
         width: 5,
         height: 2,
     };
-    let mut before = Grid::open(alloc, size, Cell::blank(pen(1)))?;
-    put(&rt, &mut before, 0, "\u{4E16}", 2);
-    put(&rt, &mut before, 2, "\u{4E16}", 3);
-    let mut grid = Grid::open(alloc, size, Cell::blank(pen(4)))?;
-    assert!(rt; before.size() == size && grid.size() == size);
     for (x, text) in [(1, "a"), (1, "\u{4E16}"), (3, "\u{4E16}"), (4, "a")] {
-        grid.take_over(&before);
-        if let Some(cell) = Cell::of(text, pen(5)) {
-            assert!(rt; !cell.tail() && cell.width() >= 1 && x + cell.width() <= size.width);
-            put_and_take_back(&mut grid, &before, x, cell);
-        }
-        check_row(&rt, alloc, &grid, 0, "\u{4E16}|.|\u{4E16}|.| |")?;
-        check_row(&rt, alloc, &grid, 1, " | | | | |")?;
+        check_taken_back(&rt, rt.alloc(), size, x, text)?;
     }
-    grid.fill(Cell::blank(pen(6)));
-    check_row(&rt, alloc, &grid, 0, " | | | | |")?;
+    Ok(())
+}
+
+#[test]
+fn a_grid_is_filled(rt: HostRuntime) -> Result<(), Fail> {
+    let size = Size {
+        width: 3,
+        height: 2,
+    };
+    let mut grid = Grid::open(rt.alloc(), size, Cell::blank(pen(1)))?;
+    put(&rt, &mut grid, 0, "\u{4E16}", 2);
+    grid.fill(Cell::blank(pen(3)));
+    check_row(&rt, rt.alloc(), &grid, 0, " | | |")?;
+    check_row(&rt, rt.alloc(), &grid, 1, " | | |")?;
     assert!(rt; grid.size() == size);
-    assert!(rt; grid.at(4, 1) == Cell::blank(pen(6)));
+    assert!(rt; grid.at(0, 0) == Cell::blank(pen(3)));
+    assert!(rt; grid.at(2, 1) == Cell::blank(pen(3)));
     Ok(())
 }
