@@ -96,7 +96,7 @@ grid_leads machine whole shown next old new same stands =
 pub updates_lead : UpdatesLead
 unfolding update
 updates_lead machine shown next old new same shows =
-    let led = grid_leads machine false shown next old.formed new same (Stands-from_Shows machine shown shows) in
+    let led = grid_leads machine false shown next old new same (Stands-from_Shows machine shown shows) in
     (led.seen, led)
 
 -- ---- the opening of a whole update
@@ -214,8 +214,8 @@ whole_updates_lead machine shown next old new same size =
     let marks = rows_marks true 0 shown.rows next.rows in
     let grid = IsGrid-blank next.size default_pen in
     let begun = fed machine opening in
-    let heights : length shown.rows ≡ length next.rows = old.formed.height ∙ ap (λ (s : Size). s.height) same ∙ sym new.formed.height in
-    let widths = subst (λ (s : Size). All (HasWidth s.width) shown.rows) same old.formed.width in
+    let heights : length shown.rows ≡ length next.rows = old.height ∙ ap (λ (s : Size). s.height) same ∙ sym new.formed.height in
+    let widths = subst (λ (s : Size). All (HasWidth s.width) shown.rows) same old.width in
     let alike : marks ≡ rows_marks true 0 blanks.rows next.rows = rows-whole next.size.width 0 next.rows shown.rows blanks.rows heights (grid.height ∙ sym new.formed.height) new.formed.width widths grid.width in
     let led = grid_leads begun true blanks next grid new refl (Stands-opening machine next.size size) in
     let named = subst (λ m. Shows (fed begun (written None m)) next) (sym alike) led in

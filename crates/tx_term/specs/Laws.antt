@@ -15,7 +15,7 @@ pub record HasByteChannels (pen : Pen) : Type 0 where
   pub back_g : pen.back.g ≤ 255
   pub back_b : pen.back.b ≤ 255
 
--- a grid that can be shown: well formed, with sides of at most 65,535 and pens of bytes
+-- a grid that an update can lead to: well formed, with sides of at most 65,535 and pens of bytes
 pub record IsScreen (grid : GridValue) : Type 0 where
   pub formed : IsGrid grid
   pub height : grid.size.height ≤ 65535
@@ -26,12 +26,12 @@ pub record IsScreen (grid : GridValue) : Type 0 where
 abbrev pub UpdatesLead : Type 0
 UpdatesLead =
     (machine : Machine) (shown next : GridValue)
-    → IsScreen shown → IsScreen next → shown.size ≡ next.size → Shows machine shown
+    → IsGrid shown → IsScreen next → shown.size ≡ next.size → Shows machine shown
     → (screen machine (update shown next false) ≡ next) × Shows (fed machine (update shown next false)) next
 
 -- A whole update does from any state whatever of a terminal of that size.
 abbrev pub WholeUpdatesLead : Type 0
 WholeUpdatesLead =
     (machine : Machine) (shown next : GridValue)
-    → IsScreen shown → IsScreen next → shown.size ≡ next.size → machine.canvas.grid.size ≡ next.size
+    → IsGrid shown → IsScreen next → shown.size ≡ next.size → machine.canvas.grid.size ≡ next.size
     → (screen machine (update shown next true) ≡ next) × Shows (fed machine (update shown next true)) next
