@@ -35,7 +35,10 @@ fn refused(alloc: Global, file: &str, line: u32, column: u32, kind: Refusal) -> 
 }
 
 fn load<F: Files>(alloc: Global, files: &mut F, name: &str) -> Result<Vec<u8>, Cause>
-    ensures { Loads (files_seen (F.contents files.old) (F.loads files.old) (F.faults files.old)) (files_seen (F.contents files.new) (F.loads files.new) (F.faults files.new)) name.now result }
+    ensures { Loads
+        (files_seen (F.contents files.old) (F.loads files.old) (F.faults files.old))
+        (files_seen (F.contents files.new) (F.loads files.new) (F.faults files.new))
+        name.now result }
 {
     match files.load(alloc, name, FILE_LIMIT) {
         Ok(bytes) => Ok(bytes),
@@ -57,7 +60,10 @@ fn open_sheet<F: Files>(
     requires screen { IsScreen size }
     requires few { length texts.items < 2 ^ 31 }
     requires printable { AllByRecursion (AllPass is_printable) texts.items }
-    ensures { OpensSheet (files_seen (F.contents files.old) (F.loads files.old) (F.faults files.old)) (files_seen (F.contents files.new) (F.loads files.new) (F.faults files.new)) (record { tree = tree.now; sheet = sheet.now; size = size }) texts.items result }
+    ensures { OpensSheet
+        (files_seen (F.contents files.old) (F.loads files.old) (F.faults files.old))
+        (files_seen (F.contents files.new) (F.loads files.new) (F.faults files.new))
+        (record { tree = tree.now; sheet = sheet.now; size = size }) texts.items result }
 {
     let bytes = match load(alloc, files, sheet) {
         Ok(bytes) => bytes,
@@ -75,7 +81,10 @@ fn open_sheet<F: Files>(
 
 /// The texts of a tree that is to be loaded.
 fn open_texts<F: Files>(alloc: Global, files: &mut F, tree: &str) -> Result<Vec<Text>, Cause>
-    ensures texts { OpensTexts (files_seen (F.contents files.old) (F.loads files.old) (F.faults files.old)) (files_seen (F.contents files.new) (F.loads files.new) (F.faults files.new)) tree.now result }
+    ensures texts { OpensTexts
+        (files_seen (F.contents files.old) (F.loads files.old) (F.faults files.old))
+        (files_seen (F.contents files.new) (F.loads files.new) (F.faults files.new))
+        tree.now result }
     ensures printable { IfOk result (λ texts. AllByRecursion (AllPass is_printable) texts.items) }
     ensures few { IfOk result (λ texts. length texts.items < 65536) }
 {
@@ -96,7 +105,10 @@ fn open_tree<F: Files>(
     size: Size,
 ) -> Result<Scene, Cause>
     requires { IsScreen size }
-    ensures { OpensTree (files_seen (F.contents files.old) (F.loads files.old) (F.faults files.old)) (files_seen (F.contents files.new) (F.loads files.new) (F.faults files.new)) (record { tree = tree.now; sheet = sheet.now; size = size }) result }
+    ensures { OpensTree
+        (files_seen (F.contents files.old) (F.loads files.old) (F.faults files.old))
+        (files_seen (F.contents files.new) (F.loads files.new) (F.faults files.new))
+        (record { tree = tree.now; sheet = sheet.now; size = size }) result }
 {
     match open_texts(alloc, files, tree) {
         Ok(texts) => open_sheet(alloc, files, tree, sheet, size, texts),
@@ -106,7 +118,10 @@ fn open_tree<F: Files>(
 
 /// The scene that the words ask for.
 pub fn open_words<F: Files>(alloc: Global, files: &mut F, words: &[String]) -> Result<Scene, Cause>
-    ensures { OpensWords (files_seen (F.contents files.old) (F.loads files.old) (F.faults files.old)) (files_seen (F.contents files.new) (F.loads files.new) (F.faults files.new)) (map string_bytes words.now) result }
+    ensures { OpensWords
+        (files_seen (F.contents files.old) (F.loads files.old) (F.faults files.old))
+        (files_seen (F.contents files.new) (F.loads files.new) (F.faults files.new))
+        (map string_bytes words.now) result }
 {
     match read_words(words) {
         Some(show) => open_tree(alloc, files, show.tree, show.sheet, show.size),

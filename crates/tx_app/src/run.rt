@@ -134,7 +134,10 @@ fn run<F: Files, K: Sink>(
     journal: &mut Vec<Entry>,
 ) -> Option<Cause>
     requires { journal.old.items ≡ [] }
-    ensures { Runs (map string_bytes words.now) (files_seen (F.contents files.old) (F.loads files.old) (F.faults files.old)) (files_seen (F.contents files.new) (F.loads files.new) (F.faults files.new)) (seen (K.taken out.old) (K.faults out.old)) (seen (K.taken out.new) (K.faults out.new)) journal.new.items result }
+    ensures { Runs (map string_bytes words.now)
+        (files_seen (F.contents files.old) (F.loads files.old) (F.faults files.old))
+        (files_seen (F.contents files.new) (F.loads files.new) (F.faults files.new))
+        (seen (K.taken out.old) (K.faults out.old)) (seen (K.taken out.new) (K.faults out.new)) journal.new.items result }
 {
     match open_words(alloc, files, words) {
         Ok(scene) => show(alloc, &scene, out, journal),
@@ -158,10 +161,10 @@ fn status_of(cause: &Option<Cause>) -> u8
 /// Does what the words ask for, the program's name before them.
 ///
 /// `show TREE SHEET`, with `--width W --height H` behind it or without, sends one whole update of
-/// the picture of the tree under the sheet to `out`, and then the closing bytes. A file is loaded
-/// once, when its turn comes, and nothing is sent before all is read. Where the status isn't 0 a
-/// line to `err` says why. No call on `files` comes after one that failed, and what `err` takes
-/// changes nothing.
+/// the picture of the tree under the sheet to `out`, and then the closing bytes, each as far as
+/// `out` takes it. The tree is loaded once, and the sheet once behind a tree in the form. Nothing is
+/// sent before all is read. Where the status isn't 0 a line to `err` says why. No call on `files`
+/// comes after one that failed.
 pub fn top_alone<F: Files, K: Sink, E: Sink>(
     alloc: Global,
     words: &[String],
@@ -169,7 +172,8 @@ pub fn top_alone<F: Files, K: Sink, E: Sink>(
     out: &mut K,
     err: &mut E,
 ) -> Outcome
-    ensures run { IsRun (map string_bytes words.now) (files_seen (F.contents files.old) (F.loads files.old) (F.faults files.old))
+    ensures run { IsRun (map string_bytes words.now)
+        (files_seen (F.contents files.old) (F.loads files.old) (F.faults files.old))
         (files_seen (F.contents files.new) (F.loads files.new) (F.faults files.new))
         (seen (K.taken out.old) (K.faults out.old)) (seen (K.taken out.new) (K.faults out.new))
         (seen (E.taken err.old) (E.faults err.old)) (seen (E.taken err.new) (E.faults err.new)) result }
