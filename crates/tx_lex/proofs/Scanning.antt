@@ -4,7 +4,7 @@ use Rattle.std.proofs.lemmas.List.{append-nil}
 use Rattle.tx_read.specs.Reading.{behind_items, Shrinks, Items, StopsAt, IsFound}
 use Rattle.tx_read.proofs.ManyItems.{many-item, many-end, many-fault, many-found, many-again}
 use Rattle.tx_lex.specs.Tokens.{is_none, is_token, IsLongestToken}
-use Rattle.tx_lex.specs.Lexing.{Spot, spot_at, start_of, spot_behind, token_of, fault_of, wrong_in, wrong_here, longest_token, sound_token, judged, token_at, is_more, left, tokens_from, fault_at_end, of_run, lexed}
+use Rattle.tx_lex.specs.Lexing.{Spot, spot_at, start_of, spot_behind, token_of, fault_of, fault_at, wrong_in, longest_token, sound_token, judged, token_at, is_more, left, tokens_from, fault_at_end, of_run, lexed}
 use Rattle.tx_lex.specs.IsLexed.{IsTokenAt, IsWrongToken, IsNoToken, EndsWith, IsLexed, LexedIsExact}
 use Rattle.tx_lex.specs.declared.token.Token.{Token}
 use Rattle.tx_lex.specs.declared.token.TokenKind.{TokenKind}
@@ -30,10 +30,10 @@ sound-found spot kind n None token behind longest fine is =
       places = sym kinds ∙ ap (λ k. token_of spot k n) same;
       rest = sym behinds;
     }
-sound-found spot kind n (Some wrong) token behind longest fine is = absurd (let clash : Err (fault_of spot wrong) ≡ Ok (token, behind) = is in cc)
+sound-found spot kind n (Some wrong) token behind longest fine is = absurd (let clash : Err (fault_of spot kind n wrong) ≡ Ok (token, behind) = is in cc)
 
 judged-found : (spot : Spot) (found : Option (TokenKind × ℕ)) (token : Token) (behind : Spot) → Judges spot.rest found → judged spot found ≡ Ok (token, behind) → IsTokenAt spot token behind
-judged-found spot None token behind judges is = absurd (let clash : Err (fault_of spot (record { kind = wrong_here spot.rest; offset = 0 })) ≡ Ok (token, behind) = is in cc)
+judged-found spot None token behind judges is = absurd (let clash : Err (fault_at spot) ≡ Ok (token, behind) = is in cc)
 judged-found spot (Some found) token behind judges is =
     sound-found spot found.0 found.1 (wrong_in found.0 (take found.1 spot.rest)) token behind judges refl is
 
@@ -44,14 +44,14 @@ token_at-found spot behind token is = judged-found spot (longest_token spot.rest
 -- a token at fault, or none
 judged-fault : (spot : Spot) (found : Option (TokenKind × ℕ)) (fault : Fault) → (spot.rest ≡ [] → ⊥) → Judges spot.rest found → judged spot found ≡ Err fault → IsNoToken spot fault ⊎ IsWrongToken spot fault
 judged-fault spot None fault some judges is =
-    let same : fault_of spot (record { kind = wrong_here spot.rest; offset = 0 }) ≡ fault = cc in
+    let same : fault_at spot ≡ fault = cc in
     inl (record { some = some; none = judges; place = sym same })
 judged-fault spot (Some found) fault some judges is = of (wrong_in found.0 (take found.1 spot.rest)) refl is
   where
     of : (wrong : Option Wrong) → wrong_in found.0 (take found.1 spot.rest) ≡ wrong → sound_token spot found.0 found.1 wrong ≡ Err fault → IsNoToken spot fault ⊎ IsWrongToken spot fault
     of None fine is = absurd (let clash : Ok (token_of spot found.0 found.1, spot_behind spot found.1) ≡ Err fault = is in cc)
     of (Some wrong) at is =
-        let same : fault_of spot wrong ≡ fault = cc in
+        let same : fault_of spot found.0 found.1 wrong ≡ fault = cc in
         inr (record { kind = found.0; n = found.1; wrong = wrong; longest = judges; is_wrong = at; place = sym same })
 
 token_at-fault : (spot : Spot) (fault : Fault) → (spot.rest ≡ [] → ⊥) → token_at spot ≡ Err fault → IsNoToken spot fault ⊎ IsWrongToken spot fault

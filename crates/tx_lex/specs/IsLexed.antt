@@ -2,7 +2,7 @@
 use Rattle.std.specs.Prelude.{◌≡◌, ℕ, ◌⊎◌, List, [], take, Option, None, Some}
 use Rattle.tx_read.specs.Reading.{Items}
 use Rattle.tx_lex.specs.Tokens.{IsLongestToken, BeginsNone}
-use Rattle.tx_lex.specs.Lexing.{Spot, start_of, spot_behind, token_of, fault_of, wrong_in, wrong_here, lexed}
+use Rattle.tx_lex.specs.Lexing.{Spot, start_of, spot_behind, token_of, fault_of, fault_at, wrong_in, lexed}
 use Rattle.tx_lex.specs.declared.token.Token.{Token}
 use Rattle.tx_lex.specs.declared.token.Fault.{Fault}
 use Rattle.tx_lex.specs.declared.token.Scanned.{Scanned}
@@ -24,13 +24,13 @@ pub record IsWrongToken (spot : Spot) (fault : Fault) : Type 0 where
   pub wrong : Wrong
   pub longest : IsLongestToken spot.rest kind n
   pub is_wrong : wrong_in kind (take n spot.rest) ≡ Some wrong
-  pub place : fault ≡ fault_of spot wrong
+  pub place : fault ≡ fault_of spot kind n wrong
 
 -- no token begins there
 pub record IsNoToken (spot : Spot) (fault : Fault) : Type 0 where
   pub some : spot.rest ≡ [] → ⊥
   pub none : BeginsNone spot.rest
-  pub place : fault ≡ fault_of spot (record { kind = wrong_here spot.rest; offset = 0 })
+  pub place : fault ≡ fault_at spot
 
 -- the tokens end at the last byte, or at a fault
 abbrev pub EndsWith : Spot → Option Fault → Type 0

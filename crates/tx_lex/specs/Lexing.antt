@@ -153,16 +153,26 @@ token_of spot kind n = record { kind = kind; from = spot.place; to = spot.place 
 abbrev pub spot_behind : Spot → ℕ → Spot
 spot_behind spot n = record { place = spot.place + n; rest = drop n spot.rest }
 
-abbrev pub fault_of : Spot → Wrong → Fault
-fault_of spot wrong = record { place = spot.place + wrong.offset; kind = wrong.kind }
+-- the token, if it is a comment: the only kind in which a fault lies behind the first byte
+abbrev pub if_comment : TokenKind → Token → Option Token
+if_comment Comment token = Some token
+if_comment _ token = None
+
+-- something is wrong in a token of this kind and length
+abbrev pub fault_of : Spot → TokenKind → ℕ → Wrong → Fault
+fault_of spot kind n wrong = record { place = spot.place + wrong.offset; kind = wrong.kind; comment = if_comment kind (token_of spot kind n) }
+
+-- no token begins here
+abbrev pub fault_at : Spot → Fault
+fault_at spot = record { place = spot.place; kind = wrong_here spot.rest; comment = None }
 
 -- the token, unless something is wrong in it
 abbrev pub sound_token : Spot → TokenKind → ℕ → Option Wrong → Result (Token × Spot) Fault
 sound_token spot kind n None = Ok (token_of spot kind n, spot_behind spot n)
-sound_token spot kind n (Some wrong) = Err (fault_of spot wrong)
+sound_token spot kind n (Some wrong) = Err (fault_of spot kind n wrong)
 
 abbrev pub judged : Spot → Option (TokenKind × ℕ) → Result (Token × Spot) Fault
-judged spot None = Err (fault_of spot (record { kind = wrong_here spot.rest; offset = 0 }))
+judged spot None = Err (fault_at spot)
 judged spot (Some found) = sound_token spot found.0 found.1 (wrong_in found.0 (take found.1 spot.rest))
 
 -- the token at a place

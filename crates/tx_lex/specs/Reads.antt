@@ -1,5 +1,5 @@
 -- What the calls answer.
-use Rattle.std.specs.Prelude.{◌≡◌, ℕ, List, None, Some, Result, Ok, Err, Vec}
+use Rattle.std.specs.Prelude.{◌≡◌, ℕ, List, None, Some, Result, Ok, Err, IsSomeAnd, Vec}
 use Rattle.std.specs.declared.alloc.Global.{Global}
 use Rattle.tx_lex.specs.Lexing.{spot_at, token_at}
 use Rattle.tx_lex.specs.declared.token.Fault.{Fault}
@@ -16,5 +16,5 @@ GivesToken bytes place (Err fault) = token_at (spot_at bytes place) ≡ Err faul
 -- all tokens where nothing is at fault, or the first fault, or that memory is wanting
 abbrev pub GivesTokens : Result (Vec Token Global) LexFault → Scanned → Type 0
 GivesTokens (Ok tokens) read = (tokens.items ≡ read.tokens) × (read.fault ≡ None)
-GivesTokens (Err (Text place kind)) read = read.fault ≡ Some (record { place = place; kind = kind })
+GivesTokens (Err (Text place kind)) read = IsSomeAnd read.fault (λ fault. (fault.place ≡ place) × (fault.kind ≡ kind))
 GivesTokens (Err NoMemory) read = Unit {0}

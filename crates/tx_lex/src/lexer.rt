@@ -1,6 +1,6 @@
 //! Tokens from the left.
 ghost use Rattle.std.specs.Prelude.{◌≡◌, ◌<◌, ◌≤◌, ◌^◌, ◌+◌, length, drop, IfOk, IfSome, Some, None, option_map, if◌then◌else◌};
-ghost use Rattle.tx_lex.specs.Lexing.{close_len, close_behind, opens_comment, comment_len, hash_len, variable_len, of_kind, number_or_point, longest_token, wrong_in, wrong_here, invalid_place, token_at, lexed};
+ghost use Rattle.tx_lex.specs.Lexing.{close_len, close_behind, opens_comment, comment_len, hash_len, variable_len, of_kind, number_or_point, longest_token, wrong_in, wrong_here, if_comment, invalid_place, token_at, lexed};
 ghost use Rattle.tx_lex.specs.Bytes.{is_mark};
 ghost use Rattle.tx_lex.specs.declared.token.TokenKind.TheVariants.{Mark};
 ghost use Rattle.tx_lex.specs.Reads.{GivesToken, GivesTokens};
@@ -182,19 +182,32 @@ fn token_at(bytes: &[u8], place: usize) -> Result<Token, Fault>
         return Err(Fault {
             place: place as u32,
             kind: wrong_here(rest),
+            comment: None,
         });
     };
-    let (token, _) = rest.split_at(found.1);
-    match wrong_in(found.0, token) {
+    let (bytes, _) = rest.split_at(found.1);
+    let token = Token {
+        kind: found.0,
+        from: place as u32,
+        to: (place + found.1) as u32,
+    };
+    match wrong_in(found.0, bytes) {
         Some(wrong) => Err(Fault {
             place: (place + wrong.offset) as u32,
             kind: wrong.kind,
+            comment: if_comment(token),
         }),
-        None => Ok(Token {
-            kind: found.0,
-            from: place as u32,
-            to: (place + found.1) as u32,
-        }),
+        None => Ok(token),
+    }
+}
+
+/// The token, if it is a comment.
+fn if_comment(token: Token) -> Option<Token>
+    ensures { result ≡ if_comment token.kind token }
+{
+    match token.kind {
+        TokenKind::Comment => Some(token),
+        _ => None,
     }
 }
 

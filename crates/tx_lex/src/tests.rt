@@ -43,7 +43,17 @@ fn faults(alloc: Global, text: &[u8], count: usize, place: u32, kind: LexKind) -
     let prefix = text.split_at(text.len().min(1000)).0;
     let Scanned { tokens, fault } = scan(alloc, prefix)?;
     expect(tokens.as_slice().len() == count, "the number of tokens")?;
-    expect(fault == Some(Fault { place, kind }), "the fault")
+    let fault = fault.ok_or("no fault")?;
+    expect(fault.place == place && fault.kind == kind, "the fault")?;
+    expect(
+        fault.comment.is_some() == in_comment(fault, tokens.as_slice()),
+        "the comment",
+    )
+}
+
+/// Whether the fault lies behind the first byte that no token has.
+fn in_comment(fault: Fault, tokens: &[Token]) -> bool {
+    fault.place != tokens.last().map_or(0, |token| token.to)
 }
 
 #[test]
@@ -165,4 +175,20 @@ fn a_text_is_read_or_its_first_fault_told(rt: HostRuntime) -> Result<(), Fail> {
         tokens(rt.alloc(), "a \u{4e16}").err() == Some(fault),
         "the fault",
     )
+}
+
+#[test]
+fn a_fault_in_a_comment_tells_the_comment(rt: HostRuntime) -> Result<(), Fail> {
+    let scanned = scan(rt.alloc(), b"a/*\xe4\xb8*/")?;
+    let comment = Token {
+        kind: COMMENT,
+        from: 1,
+        to: 7,
+    };
+    let wanted = Fault {
+        place: 3,
+        kind: LexKind::BadByte,
+        comment: Some(comment),
+    };
+    expect(scanned.fault == Some(wanted), "the fault")
 }

@@ -56,6 +56,9 @@ pub struct Wrong {
 pub struct Fault {
     pub place: u32,
     pub kind: LexKind,
+    /// The comment in which it lies. It begins before the fault, so a reader that allows no comment
+    /// there is at fault earlier. None where the fault is at the first byte behind the tokens.
+    pub comment: Option<Token>,
 }
 
 /// Why a text wasn't read.
