@@ -1,0 +1,20 @@
+-- The laws of reading.
+use Rattle.std.proofs.Common.{◌≡◌, Bool, false, List, [], ◌++◌, Ok, Err}
+use Rattle.tx_select.specs.Lexemes.{Lexeme, goes_on, first_is}
+use Rattle.tx_select.specs.Grammar.{IsWhole}
+use Rattle.tx_select.specs.Reads.{selector_at, whole_at}
+use Rattle.tx_select.specs.Laws.{StandsBefore, SelectorsAreRead, WholesAreRead}
+use Rattle.tx_select.specs.declared.value.Compound.{Compound}
+use Rattle.tx_select.proofs.FoundWhole.{CompoundsFound, selector-found, whole-found}
+use Rattle.tx_select.proofs.AgainWhole.{selector-again, whole-again}
+
+stands-before : (s rest : List Lexeme) (compounds : List Compound) → selector_at s ≡ Ok (compounds, rest) → StandsBefore s compounds rest
+stands-before s rest compounds is =
+    let found : CompoundsFound 16 false s compounds rest = selector-found s rest compounds is in
+    record { selector = found.middle; behind = found.behind; parts = found.parts; grammar = record { joined = found.joined; first = found.first; few = found.few }; blank = found.blank }
+
+pub selectors-read : SelectorsAreRead
+selectors-read ts compounds rest = (stands-before ts rest compounds, λ stands ends. selector-again ts rest compounds stands ends)
+
+pub wholes-read : WholesAreRead
+wholes-read ts compounds = (whole-found ts [] compounds, whole-again ts compounds)

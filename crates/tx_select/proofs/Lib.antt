@@ -1,0 +1,10 @@
+pub mod Again
+pub mod AgainWhole
+pub mod Cases
+pub mod Counts
+pub mod Exact
+pub mod Found
+pub mod FoundWhole
+pub mod Local
+pub mod Steps
+pub mod WholeTexts

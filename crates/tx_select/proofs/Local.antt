@@ -1,0 +1,398 @@
+-- What is read depends on nothing behind the token at which it stops or meets a fault.
+use Rattle.std.proofs.Common.{◌≡◌, ℕ, zero, suc, ◌+◌, Bool, true, false, cond, ◌&&◌, ◌||◌, List, [], ◌∷◌, ◌++◌, length, drop, Option, Some, None, Result, Ok, Err, refl, ap, sym, ◌∙◌, arith, length-append}
+use Rattle.std.proofs.lemmas.List.{append_cancel_right}
+use Rattle.tx_tree.specs.Name.{is_name}
+use Rattle.tx_read.specs.Reading.{in_turn, many, whole, IsLocal, Leaves, ByFirst}
+use Rattle.tx_read.proofs.Locality.{in_turn-local, in_turn-leaves}
+use Rattle.tx_read.proofs.ManyLocal.{many-local, many-leaves}
+use Rattle.tx_select.specs.Lexemes.{Lexeme, is_space, is_blank, is_name_token, is_hash, is_mark, is_child_mark, begins_part, begins_compound, first_is}
+use Rattle.tx_select.specs.Pseudo.{pseudo_of}
+use Rattle.tx_select.specs.Grammar.{IsWhole}
+use Rattle.tx_select.specs.Reads.{Read, Reads, expected, give, class_at, known_pseudo, pseudo_at, part_at, parts_at, kind_at, compound_of, compound_at, spaces_behind, spaces_at, joint_at, link_at, then_compounds, compounds_at, selector_at, ended, whole_at}
+use Rattle.tx_select.specs.Texts.{NoneBeginsSo}
+use Rattle.tx_select.specs.Laws.{FaultsAreFirst}
+use Rattle.tx_select.specs.declared.value.Part.{Part}
+use Rattle.tx_select.specs.declared.value.Part.TheVariants.{Id, Class, Pseudo}
+use Rattle.tx_select.specs.declared.value.PseudoName.{PseudoName}
+use Rattle.tx_select.specs.declared.value.Compound.{Compound}
+use Rattle.tx_select.specs.declared.fault.SelectKind.{SelectKind}
+use Rattle.tx_select.specs.declared.fault.SelectKind.TheVariants.{Expected, UnknownPseudo}
+use Rattle.tx_select.proofs.Cases.{Gave, given, refused}
+use Rattle.tx_select.proofs.Found.{parts-shrink}
+use Rattle.tx_select.proofs.FoundWhole.{SpacesFound, spaces-found}
+use Rattle.tx_select.proofs.AgainWhole.{whole-again}
+
+abbrev Failed : {A : Type 0} → Read A → SelectKind → List Lexeme → Type 0
+Failed read kind rest = read ≡ Err (kind, rest)
+
+wrong : {A : Type 0} (k l : SelectKind) (s t : List Lexeme) → Failed {A = A} (Err (k, s)) l t → (k ≡ l) × (s ≡ t)
+wrong {A = A} k l s t is = let pair : ◌≡◌ {A = SelectKind × List Lexeme} (k, s) (l, t) = cc in (ap (λ (p : SelectKind × List Lexeme). p.0) pair, ap (λ (p : SelectKind × List Lexeme). p.1) pair)
+
+granted : {A : Type 0} (found : A × List Lexeme) (kind : SelectKind) (t : List Lexeme) → Failed (Ok found) kind t → ⊥
+granted found kind t is = cc
+
+-- a reader of which both hold
+record Plain {A : Type 0} (reader : Reads A) : Type 0 where
+  local : IsLocal reader
+  leaves : Leaves reader
+
+turn : {A B : Type 0} (first : Reads A) (second : A → Reads B) → Plain first → ((a : A) → Plain (second a)) → Plain (in_turn first second)
+turn first second p q = record {
+  local = in_turn-local first second p.local p.leaves (λ a. (q a).local) (λ a. (q a).leaves);
+  leaves = in_turn-leaves first second p.leaves (λ a. (q a).leaves);
+}
+
+same : {A : Type 0} (one two : Reads A) → ((ts : List Lexeme) → one ts ≡ two ts) → Plain two → Plain one
+same one two e p = record {
+  local = record {
+    value = λ front more other t a is. e (front ++ (t ∷ other)) ∙ p.local.value front more other t a (sym (e (front ++ (t ∷ more))) ∙ is);
+    fault = λ front more other t kind is. e (front ++ (t ∷ other)) ∙ p.local.fault front more other t kind (sym (e (front ++ (t ∷ more))) ∙ is);
+  };
+  leaves = record {
+    value = λ xs rest a is. p.leaves.value xs rest a (sym (e xs) ∙ is);
+    fault = λ xs rest kind is. p.leaves.fault xs rest kind (sym (e xs) ∙ is);
+  };
+}
+
+-- ---- readers that go by the first token
+
+data Step (A : Type 0) : Type 0 where
+  Take : A → Step A
+  Leave : A → Step A
+  Refuse : SelectKind → Step A
+
+abbrev stepped : {A : Type 0} → Lexeme → List Lexeme → Step A → Read A
+stepped t ts (Take a) = Ok (a, ts)
+stepped t ts (Leave a) = Ok (a, t ∷ ts)
+stepped t ts (Refuse kind) = Err (kind, t ∷ ts)
+
+abbrev at_end : {A : Type 0} → Result A SelectKind → Read A
+at_end (Ok a) = Ok (a, [])
+at_end (Err kind) = Err (kind, [])
+
+abbrev by_first : {A : Type 0} → Result A SelectKind → (Lexeme → Step A) → Reads A
+by_first end step [] = at_end end
+by_first end step (t ∷ ts) = stepped t ts (step t)
+
+-- a list isn't one that is longer
+no_longer : (front xs : List Lexeme) (t : Lexeme) → (t ∷ front) ++ xs ≡ xs → ⊥
+no_longer front xs t is =
+    let clash : t ∷ front ≡ [] = append_cancel_right (t ∷ front) [] xs is in cc
+
+here-value : {A : Type 0} (t : Lexeme) (more other : List Lexeme) (a : A) (step : Step A) → Gave (stepped t more step) a (t ∷ more) → Gave (stepped t other step) a (t ∷ other)
+here-value t more other a (Take b) is = absurd (no_longer [] more t (sym (given b a more (t ∷ more) is).1))
+here-value t more other a (Leave b) is = ap (λ x. Ok (x, t ∷ other)) (given b a (t ∷ more) (t ∷ more) is).0
+here-value t more other a (Refuse kind) is = absurd (refused (kind, t ∷ more) a (t ∷ more) is)
+
+here-fault : {A : Type 0} (t : Lexeme) (more other : List Lexeme) (kind : SelectKind) (step : Step A) → Failed (stepped t more step) kind (t ∷ more) → Failed (stepped t other step) kind (t ∷ other)
+here-fault t more other kind (Take b) is = absurd (granted (b, more) kind (t ∷ more) is)
+here-fault t more other kind (Leave b) is = absurd (granted (b, t ∷ more) kind (t ∷ more) is)
+here-fault {A = A} t more other kind (Refuse one) is = ap (λ k. Err (k, t ∷ other)) (wrong {A = A} one kind (t ∷ more) (t ∷ more) is).0
+
+there-value : {A : Type 0} (x t : Lexeme) (front more other : List Lexeme) (a : A) (step : Step A) → Gave (stepped x (front ++ (t ∷ more)) step) a (t ∷ more) → Gave (stepped x (front ++ (t ∷ other)) step) a (t ∷ other)
+there-value x t front more other a (Take b) is =
+    let parts : (b ≡ a) × (front ++ (t ∷ more) ≡ t ∷ more) = given b a (front ++ (t ∷ more)) (t ∷ more) is in
+    let none : front ≡ [] = append_cancel_right front [] (t ∷ more) parts.1 in
+    ap (λ f. Ok (b, f ++ (t ∷ other))) none ∙ ap (λ v. Ok (v, t ∷ other)) parts.0
+there-value x t front more other a (Leave b) is = absurd (no_longer front (t ∷ more) x (given b a (x ∷ (front ++ (t ∷ more))) (t ∷ more) is).1)
+there-value x t front more other a (Refuse kind) is = absurd (refused (kind, x ∷ (front ++ (t ∷ more))) a (t ∷ more) is)
+
+there-fault : {A : Type 0} (x t : Lexeme) (front more other : List Lexeme) (kind : SelectKind) (step : Step A) → Failed (stepped x (front ++ (t ∷ more)) step) kind (t ∷ more) → Failed (stepped x (front ++ (t ∷ other)) step) kind (t ∷ other)
+there-fault x t front more other kind (Take b) is = absurd (granted (b, front ++ (t ∷ more)) kind (t ∷ more) is)
+there-fault x t front more other kind (Leave b) is = absurd (granted (b, x ∷ (front ++ (t ∷ more))) kind (t ∷ more) is)
+there-fault {A = A} x t front more other kind (Refuse one) is = absurd (no_longer front (t ∷ more) x (wrong {A = A} one kind (x ∷ (front ++ (t ∷ more))) (t ∷ more) is).1)
+
+stepped-value : {A : Type 0} (t : Lexeme) (ts rest : List Lexeme) (a : A) (step : Step A) → Gave (stepped t ts step) a rest → (piece : List Lexeme) × (t ∷ ts ≡ piece ++ rest)
+stepped-value t ts rest a (Take b) is = (t ∷ [], ap (λ xs. t ∷ xs) (given b a ts rest is).1)
+stepped-value t ts rest a (Leave b) is = ([], (given b a (t ∷ ts) rest is).1)
+stepped-value t ts rest a (Refuse kind) is = absurd (refused (kind, t ∷ ts) a rest is)
+
+stepped-fault : {A : Type 0} (t : Lexeme) (ts rest : List Lexeme) (kind : SelectKind) (step : Step A) → Failed (stepped t ts step) kind rest → (piece : List Lexeme) × (t ∷ ts ≡ piece ++ rest)
+stepped-fault t ts rest kind (Take b) is = absurd (granted (b, ts) kind rest is)
+stepped-fault t ts rest kind (Leave b) is = absurd (granted (b, t ∷ ts) kind rest is)
+stepped-fault {A = A} t ts rest kind (Refuse one) is = ([], (wrong {A = A} one kind (t ∷ ts) rest is).1)
+
+end-value : {A : Type 0} (end : Result A SelectKind) (a : A) (rest : List Lexeme) → Gave (at_end end) a rest → [] ≡ rest
+end-value (Ok b) a rest is = (given b a [] rest is).1
+end-value (Err kind) a rest is = absurd (refused (kind, []) a rest is)
+
+end-fault : {A : Type 0} (end : Result A SelectKind) (kind : SelectKind) (rest : List Lexeme) → Failed (at_end end) kind rest → [] ≡ rest
+end-fault (Ok b) kind rest is = absurd (granted (b, []) kind rest is)
+end-fault {A = A} (Err one) kind rest is = (wrong {A = A} one kind [] rest is).1
+
+first-plain : {A : Type 0} (end : Result A SelectKind) (step : Lexeme → Step A) → Plain (by_first end step)
+first-plain {A = A} end step = record {
+  local = record { value = value; fault = fault };
+  leaves = record { value = left; fault = left_fault };
+}
+  where
+    value : (front more other : List Lexeme) (t : Lexeme) (a : A) → by_first end step (front ++ (t ∷ more)) ≡ Ok (a, t ∷ more) → by_first end step (front ++ (t ∷ other)) ≡ Ok (a, t ∷ other)
+    value [] more other t a is = here-value t more other a (step t) is
+    value (x ∷ front) more other t a is = there-value x t front more other a (step x) is
+
+    fault : (front more other : List Lexeme) (t : Lexeme) (kind : SelectKind) → by_first end step (front ++ (t ∷ more)) ≡ Err (kind, t ∷ more) → by_first end step (front ++ (t ∷ other)) ≡ Err (kind, t ∷ other)
+    fault [] more other t kind is = here-fault t more other kind (step t) is
+    fault (x ∷ front) more other t kind is = there-fault x t front more other kind (step x) is
+
+    left : (xs rest : List Lexeme) (a : A) → by_first end step xs ≡ Ok (a, rest) → (piece : List Lexeme) × (xs ≡ piece ++ rest)
+    left [] rest a is = ([], end-value end a rest is)
+    left (t ∷ ts) rest a is = stepped-value t ts rest a (step t) is
+
+    left_fault : (xs rest : List Lexeme) (kind : SelectKind) → by_first end step xs ≡ Err (kind, rest) → (piece : List Lexeme) × (xs ≡ piece ++ rest)
+    left_fault [] rest kind is = ([], end-fault end kind rest is)
+    left_fault (t ∷ ts) rest kind is = stepped-fault t ts rest kind (step t) is
+
+-- a reader that takes nothing
+give-plain : {A : Type 0} (a : A) → Plain (give a)
+give-plain a = same (give a) (by_first (Ok a) (λ t. Leave a)) of (first-plain (Ok a) (λ t. Leave a))
+  where
+    of : (ts : List Lexeme) → give a ts ≡ by_first (Ok a) (λ t. Leave a) ts
+    of [] = refl
+    of (t ∷ ts) = refl
+
+expected-plain : {A : Type 0} → Plain {A = A} expected
+expected-plain {A = A} = same expected (by_first {A = A} (Err Expected) (λ t. Refuse Expected)) of (first-plain (Err Expected) (λ t. Refuse Expected))
+  where
+    of : (ts : List Lexeme) → expected {A = A} ts ≡ by_first {A = A} (Err Expected) (λ t. Refuse Expected) ts
+    of [] = refl
+    of (t ∷ ts) = refl
+
+-- ---- parts
+
+class_step : Lexeme → Step Part
+class_step t = cond (is_name_token t.kind && is_name t.bytes) (Take (Class t.bytes)) (Refuse Expected)
+
+class-plain : Plain class_at
+unfolding class_step
+class-plain = same class_at (by_first (Err Expected) class_step) of (first-plain (Err Expected) class_step)
+  where
+    chosen : (t : Lexeme) (ts : List Lexeme) (b : Bool) → cond b (Ok (Class t.bytes, ts)) (expected (t ∷ ts)) ≡ stepped t ts (cond b (Take (Class t.bytes)) (Refuse Expected))
+    chosen t ts true = refl
+    chosen t ts false = refl
+
+    of : (ts : List Lexeme) → class_at ts ≡ by_first (Err Expected) class_step ts
+    of [] = refl
+    of (t ∷ ts) = chosen t ts (is_name_token t.kind && is_name t.bytes)
+
+abbrev known_step : Option PseudoName → Step Part
+known_step (Some pseudo) = Take (Pseudo pseudo)
+known_step None = Refuse UnknownPseudo
+
+pseudo_step : Lexeme → Step Part
+pseudo_step t = cond (is_name_token t.kind) (known_step (pseudo_of t.bytes)) (Refuse Expected)
+
+pseudo-plain : Plain pseudo_at
+unfolding pseudo_step
+pseudo-plain = same pseudo_at (by_first (Err Expected) pseudo_step) of (first-plain (Err Expected) pseudo_step)
+  where
+    chosen : (t : Lexeme) (ts : List Lexeme) (b : Bool) (found : Option PseudoName) → cond b (known_pseudo t ts found) (expected (t ∷ ts)) ≡ stepped t ts (cond b (known_step found) (Refuse Expected))
+    chosen t ts true (Some pseudo) = refl
+    chosen t ts true None = refl
+    chosen t ts false found = refl
+
+    of : (ts : List Lexeme) → pseudo_at ts ≡ by_first (Err Expected) pseudo_step ts
+    of [] = refl
+    of (t ∷ ts) = chosen t ts (is_name_token t.kind) (pseudo_of t.bytes)
+
+-- what the first token of a part tells
+data Sort : Type 0 where
+  Done : Part → Sort
+  ClassNext : Sort
+  PseudoNext : Sort
+
+abbrev rest_of : Sort → Reads Part
+rest_of (Done part) = give part
+rest_of ClassNext = class_at
+rest_of PseudoNext = pseudo_at
+
+rest-plain : (sort : Sort) → Plain (rest_of sort)
+rest-plain (Done part) = give-plain part
+rest-plain ClassNext = class-plain
+rest-plain PseudoNext = pseudo-plain
+
+abbrev sort_by : Lexeme → Bool → Bool → Bool → Bool → Step Sort
+sort_by t hash named point colon =
+    cond hash (cond named (Take (Done (Id (drop 1 t.bytes)))) (Refuse Expected)) (cond point (Take ClassNext) (cond colon (Take PseudoNext) (Refuse Expected)))
+
+sort_step : Lexeme → Step Sort
+sort_step t = sort_by t (is_hash t.kind) (is_name (drop 1 t.bytes)) (is_mark 46 t.kind) (is_mark 58 t.kind)
+
+part-plain : Plain part_at
+unfolding part_at sort_step
+part-plain = same part_at (in_turn (by_first (Err Expected) sort_step) rest_of) of (turn (by_first (Err Expected) sort_step) rest_of (first-plain (Err Expected) sort_step) rest-plain)
+  where
+    chosen : (t : Lexeme) (ts : List Lexeme) (hash named point colon : Bool)
+        → cond hash (cond named (Ok (Id (drop 1 t.bytes), ts)) (expected (t ∷ ts))) (cond point (class_at ts) (cond colon (pseudo_at ts) (expected (t ∷ ts))))
+        ≡ in_turn (λ xs. stepped t ts (sort_by t hash named point colon)) rest_of (t ∷ ts)
+    chosen t ts true true point colon = refl
+    chosen t ts true false point colon = refl
+    chosen t ts false named true colon = refl
+    chosen t ts false named false true = refl
+    chosen t ts false named false false = refl
+
+    of : (ts : List Lexeme) → part_at ts ≡ in_turn (by_first (Err Expected) sort_step) rest_of ts
+    of [] = refl
+    of (t ∷ ts) = chosen t ts (is_hash t.kind) (is_name (drop 1 t.bytes)) (is_mark 46 t.kind) (is_mark 58 t.kind)
+
+begins-first : ByFirst (first_is begins_part)
+begins-first = record { same = λ t xs ys. refl }
+
+parts-plain : Plain parts_at
+unfolding parts_at
+parts-plain = record {
+  local = many-local (first_is begins_part) part_at begins-first parts-shrink part-plain.local part-plain.leaves;
+  leaves = many-leaves (first_is begins_part) part_at parts-shrink part-plain.leaves;
+}
+
+-- ---- compounds
+
+abbrev kind_by : Lexeme → Bool → Bool → Bool → Bool → Step (Option (List ℕ))
+kind_by t name named star part =
+    cond name (cond named (Take (Some t.bytes)) (Refuse Expected)) (cond star (Take None) (cond part (Leave None) (Refuse Expected)))
+
+kind_step : Lexeme → Step (Option (List ℕ))
+kind_step t = kind_by t (is_name_token t.kind) (is_name t.bytes) (is_mark 42 t.kind) (begins_part t.kind)
+
+kind-plain : Plain kind_at
+unfolding kind_at kind_step
+kind-plain = same kind_at (by_first (Err Expected) kind_step) of (first-plain (Err Expected) kind_step)
+  where
+    chosen : (t : Lexeme) (ts : List Lexeme) (name named star part : Bool)
+        → cond name (cond named (Ok (Some t.bytes, ts)) (expected (t ∷ ts))) (cond star (Ok (None, ts)) (cond part (Ok (None, t ∷ ts)) (expected (t ∷ ts))))
+        ≡ stepped t ts (kind_by t name named star part)
+    chosen t ts true true star part = refl
+    chosen t ts true false star part = refl
+    chosen t ts false named true part = refl
+    chosen t ts false named false true = refl
+    chosen t ts false named false false = refl
+
+    of : (ts : List Lexeme) → kind_at ts ≡ by_first (Err Expected) kind_step ts
+    of [] = refl
+    of (t ∷ ts) = chosen t ts (is_name_token t.kind) (is_name t.bytes) (is_mark 42 t.kind) (begins_part t.kind)
+
+compound-plain : (child : Bool) → Plain (compound_at child)
+unfolding compound_at
+compound-plain child = turn kind_at (λ kind. in_turn parts_at (λ parts. give (compound_of child kind parts))) kind-plain
+    (λ kind. turn parts_at (λ parts. give (compound_of child kind parts)) parts-plain (λ parts. give-plain (compound_of child kind parts)))
+
+-- ---- spaces, and what joins compounds
+
+pair-parts : (a b : Bool) (s t : List Lexeme) → ◌≡◌ {A = Bool × List Lexeme} (a, s) (b, t) → (a ≡ b) × (s ≡ t)
+pair-parts a b s t is = (ap (λ (p : Bool × List Lexeme). p.0) is, ap (λ (p : Bool × List Lexeme). p.1) is)
+
+spaces-value : (spaced : Bool) (front more other : List Lexeme) (t : Lexeme) (b : Bool) → spaces_behind spaced (front ++ (t ∷ more)) ≡ (b, t ∷ more) → spaces_behind spaced (front ++ (t ∷ other)) ≡ (b, t ∷ other)
+spaces-value spaced [] more other t b is = of (is_blank t.kind) is
+  where
+    longer : (found : Bool × List Lexeme) → SpacesFound (spaced || is_space t.kind) more found → found ≡ (b, t ∷ more) → ⊥
+    longer found has is =
+        let rest : found.1 ≡ t ∷ more = ap (λ (p : Bool × List Lexeme). p.1) is in
+        let sized : length more ≡ length has.blank + length (t ∷ more) = ap length (has.parts ∙ ap (λ r. has.blank ++ r) rest) ∙ length-append has.blank (t ∷ more) in
+        omega (arith, sized)
+
+    of : (blank : Bool) → cond blank (spaces_behind (spaced || is_space t.kind) more) (spaced, t ∷ more) ≡ (b, t ∷ more)
+        → cond blank (spaces_behind (spaced || is_space t.kind) other) (spaced, t ∷ other) ≡ (b, t ∷ other)
+    of true is = absurd (longer (spaces_behind (spaced || is_space t.kind) more) (spaces-found (spaced || is_space t.kind) more) is)
+    of false is = ap (λ s. (s, t ∷ other)) (pair-parts spaced b (t ∷ more) (t ∷ more) is).0
+spaces-value spaced (x ∷ front) more other t b is = of (is_blank x.kind) is (spaces-value (spaced || is_space x.kind) front more other t b)
+  where
+    of : (blank : Bool) → cond blank (spaces_behind (spaced || is_space x.kind) (front ++ (t ∷ more))) (spaced, x ∷ (front ++ (t ∷ more))) ≡ (b, t ∷ more)
+        → (spaces_behind (spaced || is_space x.kind) (front ++ (t ∷ more)) ≡ (b, t ∷ more) → spaces_behind (spaced || is_space x.kind) (front ++ (t ∷ other)) ≡ (b, t ∷ other))
+        → cond blank (spaces_behind (spaced || is_space x.kind) (front ++ (t ∷ other))) (spaced, x ∷ (front ++ (t ∷ other))) ≡ (b, t ∷ other)
+    of true is again = again is
+    of false is again = absurd (no_longer front (t ∷ more) x (pair-parts spaced b (x ∷ (front ++ (t ∷ more))) (t ∷ more) is).1)
+
+whole_pair : (found : Bool × List Lexeme) (b : Bool) (rest : List Lexeme) → Gave (Ok found) b rest → found ≡ (b, rest)
+whole_pair found b rest is = cc
+
+spaces-plain : Plain (λ ts. Ok (spaces_at ts))
+unfolding spaces_at
+spaces-plain = record {
+  local = record {
+    value = λ front more other t b is. ap Ok (spaces-value false front more other t b (whole_pair (spaces_behind false (front ++ (t ∷ more))) b (t ∷ more) is));
+    fault = λ front more other t kind is. absurd (granted (spaces_behind false (front ++ (t ∷ more))) kind (t ∷ more) is);
+  };
+  leaves = record {
+    value = λ xs rest b is. left xs rest b (spaces-found false xs) (whole_pair (spaces_behind false xs) b rest is);
+    fault = λ xs rest kind is. absurd (granted (spaces_behind false xs) kind rest is);
+  };
+}
+  where
+    left : (xs rest : List Lexeme) (b : Bool) → SpacesFound false xs (spaces_behind false xs) → spaces_behind false xs ≡ (b, rest) → (piece : List Lexeme) × (xs ≡ piece ++ rest)
+    left xs rest b found is = (found.blank, found.parts ∙ ap (λ (p : Bool × List Lexeme). found.blank ++ p.1) is)
+
+abbrev joint_by : Bool → Bool → Step (Option Bool)
+joint_by mark compound = cond mark (Take (Some true)) (cond compound (Leave (Some false)) (Leave None))
+
+joint_step : Bool → Lexeme → Step (Option Bool)
+joint_step spaced t = joint_by (is_child_mark t.kind) (spaced && begins_compound t.kind)
+
+abbrev joint_rest : Option Bool → Reads (Option Bool)
+joint_rest None = give None
+joint_rest (Some false) = give (Some false)
+joint_rest (Some true) = in_turn (λ ts. Ok (spaces_at ts)) (λ spaced. give (Some true))
+
+joint_rest-plain : (next : Option Bool) → Plain (joint_rest next)
+joint_rest-plain None = give-plain None
+joint_rest-plain (Some false) = give-plain (Some false)
+joint_rest-plain (Some true) = turn (λ ts. Ok (spaces_at ts)) (λ spaced. give (Some true)) spaces-plain (λ spaced. give-plain (Some true))
+
+joint-plain : (spaced : Bool) → Plain (λ ts. Ok (joint_at spaced ts))
+unfolding joint_step
+joint-plain spaced = same (λ ts. Ok (joint_at spaced ts)) (in_turn (by_first (Ok None) (joint_step spaced)) joint_rest) of
+    (turn (by_first (Ok None) (joint_step spaced)) joint_rest (first-plain (Ok None) (joint_step spaced)) joint_rest-plain)
+  where
+    chosen : (t : Lexeme) (ts : List Lexeme) (mark compound : Bool)
+        → Ok (cond mark (Some true, (spaces_at ts).1) (cond compound (Some false, t ∷ ts) (None, t ∷ ts))) ≡ in_turn (λ xs. stepped t ts (joint_by mark compound)) joint_rest (t ∷ ts)
+    chosen t ts true compound = refl
+    chosen t ts false true = refl
+    chosen t ts false false = refl
+
+    of : (ts : List Lexeme) → Ok (joint_at spaced ts) ≡ in_turn (by_first (Ok None) (joint_step spaced)) joint_rest ts
+    of [] = refl
+    of (t ∷ ts) = chosen t ts (is_child_mark t.kind) (spaced && begins_compound t.kind)
+
+link-plain : Plain (λ ts. Ok (link_at ts))
+unfolding link_at
+link-plain = turn (λ ts. Ok (spaces_at ts)) (λ spaced ts. Ok (joint_at spaced ts)) spaces-plain joint-plain
+
+-- ---- selectors
+
+compounds-plain : (most : ℕ) (child : Bool) → Plain (compounds_at most child)
+unfolding compounds_at
+compounds-plain zero child = expected-plain
+compounds-plain (suc most) child =
+    turn (compound_at child) (λ compound. in_turn (λ ts. Ok (link_at ts)) (then_compounds (compounds_at most) compound)) (compound-plain child)
+    (λ compound. turn (λ ts. Ok (link_at ts)) (then_compounds (compounds_at most) compound) link-plain (then-plain compound (compounds-plain most)))
+  where
+    then-plain : (compound : Compound) → ((child : Bool) → Plain (compounds_at most child)) → (next : Option Bool) → Plain (then_compounds (compounds_at most) compound next)
+    then-plain compound plain None = give-plain (compound ∷ [])
+    then-plain compound plain (Some child) = turn (compounds_at most child) (λ compounds. give (compound ∷ compounds)) (plain child) (λ compounds. give-plain (compound ∷ compounds))
+
+selector-plain : Plain selector_at
+unfolding selector_at
+selector-plain = compounds-plain 16 false
+
+ended-plain : (compounds : List Compound) → Plain (ended compounds)
+ended-plain compounds = same (ended compounds) (by_first (Ok compounds) (λ t. Refuse Expected)) of (first-plain (Ok compounds) (λ t. Refuse Expected))
+  where
+    of : (ts : List Lexeme) → ended compounds ts ≡ by_first (Ok compounds) (λ t. Refuse Expected) ts
+    of [] = refl
+    of (t ∷ ts) = refl
+
+whole-plain : Plain whole_at
+unfolding whole_at
+whole-plain = turn (λ ts. Ok (spaces_at ts)) (λ spaced. in_turn selector_at ended) spaces-plain (λ spaced. turn selector_at ended selector-plain ended-plain)
+
+-- a list that has a fault isn't in the grammar
+not_whole : (ts rest : List Lexeme) (kind : SelectKind) (compounds : List Compound) → whole_at ts ≡ Err (kind, rest) → IsWhole ts compounds → ⊥
+not_whole ts rest kind compounds is grammar = granted (compounds, []) kind rest (sym (whole-again ts compounds grammar) ∙ is)
+
+pub faults-first : FaultsAreFirst
+faults-first ts [] kind is = λ compounds grammar. not_whole ts [] kind compounds is grammar
+faults-first ts (t ∷ more) kind is =
+    let split : (front : List Lexeme) × (ts ≡ front ++ (t ∷ more)) = whole-plain.leaves.fault ts (t ∷ more) kind is in (
+      split.0,
+      split.1,
+      λ other compounds grammar. not_whole (split.0 ++ (t ∷ other)) (t ∷ other) kind compounds
+          (whole-plain.local.fault split.0 more other t kind (ap whole_at (sym split.1) ∙ is)) grammar,
+    )

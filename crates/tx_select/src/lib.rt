@@ -1,0 +1,19 @@
+//! Selectors of TCSS, the stylesheets of Textual (<https://textual.textualize.io/guide/CSS/>).
+//!
+//! [`read_selector`] reads a text, and [`selector_at`] a selector that stands among other tokens.
+#![tactic(auto)]
+
+mod fault;
+pub mod laws;
+mod lexemes;
+mod reader;
+mod specific;
+#[cfg(test)]
+mod tests;
+mod texts;
+mod value;
+
+pub use fault::{SelectFault, SelectKind, TokenFault};
+pub use specific::specificity;
+pub use texts::{read_selector, selector_at};
+pub use value::{Compound, Compounds, Part, Parts, Pseudo, PseudoName, Selector};

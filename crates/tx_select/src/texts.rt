@@ -1,0 +1,111 @@
+//! Selectors that stand among tokens, and those that are a whole text.
+ghost use Rattle.std.specs.Prelude.{◌≡◌, ◌<◌, ◌^◌, ℕ, List, length, IfOk, IfErr, Ok};
+ghost use Rattle.tx_select.specs.Lexemes.{lexemes, lexemes_from};
+ghost use Rattle.tx_select.specs.Reads.{selector_at, whole_at, ended};
+ghost use Rattle.tx_select.specs.Texts.{Gives, GivesFrom, GivesSelector, end_of, place_of, selector_of, IsSelectorText, IsFirstFault};
+ghost use Rattle.tx_select.specs.declared.value.Selector.{Selector};
+
+use crate::fault::{SelectFault, TokenFault};
+use crate::reader::{compounds, expected, spaces, token};
+use crate::value::{Compounds, Selector};
+use std::alloc::Global;
+use tx_lex::{Fault, Scanned, Token, scan};
+
+/// Reads the selector that begins at the token of this number, with the spaces and comments behind
+/// it, and answers it with the number of the token behind them. It reads as far as a selector can
+/// go on, so that what may stand behind it is for the caller to judge. The tokens are those of
+/// `text`. `At` is the first token that the grammar doesn't allow.
+pub fn selector_at(
+    alloc: Global,
+    text: &[u8],
+    tokens: &[Token],
+    at: usize,
+) -> Result<(Selector, usize), TokenFault>
+    ensures { GivesFrom text.now tokens.now result (selector_at (lexemes_from text.now tokens.now at)) }
+{
+    match compounds(alloc, text, tokens, at) {
+        Ok(found) => Ok((Selector { compounds: found.0 }, found.1)),
+        Err(fault) => Err(fault),
+    }
+}
+
+/// The tokens are one selector with spaces and comments round it.
+#[tactic(auto, unfolding(crate::specs::Reads::whole_at))]
+fn whole(alloc: Global, text: &[u8], tokens: &[Token]) -> Result<(Compounds, usize), TokenFault>
+    ensures { Gives text.now tokens.now result (whole_at (lexemes_from text.now tokens.now 0)) }
+{
+    let before = spaces(tokens, 0);
+    match compounds(alloc, text, tokens, before.1) {
+        Ok(found) => ended(tokens, found),
+        Err(fault) => Err(fault),
+    }
+}
+
+/// Nothing more stands behind these compounds.
+fn ended(tokens: &[Token], found: (Compounds, usize)) -> Result<(Compounds, usize), TokenFault>
+    ensures { (text : List ℕ) → Gives text tokens.now result (ended found.0 (lexemes_from text tokens.now found.1)) }
+{
+    match token(tokens, found.1) {
+        Some(_) => Err(expected(found.1)),
+        None => Ok(found),
+    }
+}
+
+/// Where the tokens of a text end: at the byte that is at fault, or behind the last one.
+fn end_of(text: &[u8], fault: Option<Fault>) -> u32
+    requires { length text.now < 2 ^ 32 }
+    ensures { result ≡ end_of text.now fault }
+{
+    match fault {
+        Some(fault) => fault.place,
+        None => text.len() as u32,
+    }
+}
+
+/// The place of a token, or where the tokens end.
+fn place_of(tokens: &[Token], at: usize, end: u32) -> u32
+    ensures { (text : List ℕ) → result ≡ place_of end (lexemes_from text tokens.now at) }
+{
+    if at < tokens.len() {
+        tokens[at].from
+    } else {
+        end
+    }
+}
+
+/// The selector that bytes are.
+#[tactic(auto, unfolding(crate::specs::Texts::selector_of))]
+fn read(alloc: Global, text: &[u8]) -> Result<Selector, SelectFault>
+    requires { length text.now < 2 ^ 32 }
+    ensures { GivesSelector result (selector_of text.now) }
+{
+    let Ok(Scanned { tokens, fault }) = scan(alloc, text) else {
+        return Err(SelectFault::NoMemory);
+    };
+    match whole(alloc, text, tokens.as_slice()) {
+        Ok(found) => match fault {
+            Some(fault) => Err(SelectFault::Grammar { place: fault.place }),
+            None => Ok(Selector { compounds: found.0 }),
+        },
+        Err(TokenFault::At { kind: _, at }) => Err(SelectFault::Grammar {
+            place: place_of(tokens.as_slice(), at, end_of(text, fault)),
+        }),
+        Err(TokenFault::Memory) => Err(SelectFault::NoMemory),
+    }
+}
+
+/// Reads a text of fewer than 2^32 bytes that is one selector, with spaces and comments round it.
+/// `Grammar` is the first fault: the first token that the grammar doesn't allow, a byte that is
+/// part of no token, or the end.
+pub fn read_selector(alloc: Global, text: &str) -> Result<Selector, SelectFault>
+    requires { length text.now < 2 ^ 32 }
+    // What is read is in the grammar.
+    ensures found { IfOk result (λ selector. IsSelectorText text.now selector) }
+    // What is in the grammar is read, unless memory is wanting.
+    ensures only { (selector : Selector) → IsSelectorText text.now selector → GivesSelector result (Ok selector) }
+    // A fault is the first one.
+    ensures fault { IfErr result (λ fault. IsFirstFault text.now fault) }
+    ensures exact { GivesSelector result (selector_of text.now) }
+{
+    read(alloc, text.as_bytes())
+}
