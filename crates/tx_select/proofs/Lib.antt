@@ -6,5 +6,6 @@ pub mod Exact
 pub mod Found
 pub mod FoundWhole
 pub mod Local
+pub mod Small
 pub mod Steps
 pub mod WholeTexts

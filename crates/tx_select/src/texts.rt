@@ -2,6 +2,7 @@
 ghost use Rattle.std.specs.Prelude.{◌≡◌, ◌<◌, ◌^◌, ℕ, List, length, IfOk, IfErr, Ok};
 ghost use Rattle.tx_select.specs.Lexemes.{lexemes, lexemes_from};
 ghost use Rattle.tx_select.specs.Reads.{selector_at, whole_at, ended};
+ghost use Rattle.tx_select.specs.Specificity.{IsSmall};
 ghost use Rattle.tx_select.specs.Texts.{Gives, GivesFrom, GivesSelector, end_of, place_of, selector_of, IsSelectorText, IsFirstFault};
 ghost use Rattle.tx_select.specs.declared.value.Selector.{Selector};
 
@@ -101,6 +102,8 @@ pub fn read_selector(alloc: Global, text: &str) -> Result<Selector, SelectFault>
     requires { length text.now < 2 ^ 32 }
     // What is read is in the grammar.
     ensures found { IfOk result (λ selector. IsSelectorText text.now selector) }
+    // It has few enough parts to be counted.
+    ensures small { IfOk result (λ selector. IsSmall selector) }
     // What is in the grammar is read, unless memory is wanting.
     ensures only { (selector : Selector) → IsSelectorText text.now selector → GivesSelector result (Ok selector) }
     // A fault is the first one.
