@@ -1,12 +1,12 @@
 -- The parts of the grammar are read: a part, parts and a compound.
-use Rattle.std.proofs.Common.{◌≡◌, ◌≢◌, ℕ, Bool, true, false, cond, ◌&&◌, ◌||◌, nat_eq, List, [], ◌∷◌, ◌++◌, length, drop, Option, Some, None, Ok, Err, refl, ap, sym, ◌∙◌, arith, append_assoc}
+use Rattle.std.proofs.Common.{◌≡◌, ◌≢◌, ℕ, Bool, true, false, cond, ◌&&◌, ◌||◌, nat_eq, List, [], ◌∷◌, ◌++◌, length, Option, Some, None, Ok, refl, ap, ◌∙◌, arith, append_assoc}
 use Rattle.std.proofs.lemmas.Bool.Decides.{nat_tests}
 use Rattle.tx_lex.specs.declared.token.TokenKind.{TokenKind}
 use Rattle.tx_lex.specs.declared.token.TokenKind.TheVariants.{Space, Comment, Name, Hash, Variable, Number, Mark}
 use Rattle.tx_tree.specs.Name.{is_name}
 use Rattle.tx_read.specs.Reading.{◌>>=◌, Items, whole}
 use Rattle.tx_read.proofs.ManyItems.{many-again}
-use Rattle.tx_select.specs.Lexemes.{Lexeme, is_name_token, is_hash, is_mark, is_blank, is_child_mark, begins_part, begins_compound, first_is}
+use Rattle.tx_select.specs.Lexemes.{Lexeme, is_name_token, is_hash, is_mark, begins_part, begins_compound, first_is}
 use Rattle.tx_select.specs.Pseudo.{pseudo_name, pseudo_of}
 use Rattle.tx_select.specs.Grammar.{IsPart, AreParts, IsKind, IsCompound}
 use Rattle.tx_select.specs.Reads.{Read, id_at, class_at, known_pseudo, pseudo_at, part_at, parts_at, kind_at, compound_of, compound_at, expected}

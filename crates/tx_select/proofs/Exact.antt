@@ -1,8 +1,7 @@
 -- The laws of reading.
-use Rattle.std.proofs.Common.{◌≡◌, Bool, false, List, [], ◌++◌, Ok, Err}
-use Rattle.tx_select.specs.Lexemes.{Lexeme, goes_on, first_is}
-use Rattle.tx_select.specs.Grammar.{IsWhole}
-use Rattle.tx_select.specs.Reads.{selector_at, whole_at}
+use Rattle.std.proofs.Common.{◌≡◌, false, List, [], Ok}
+use Rattle.tx_select.specs.Lexemes.{Lexeme}
+use Rattle.tx_select.specs.Reads.{selector_at}
 use Rattle.tx_select.specs.Laws.{StandsBefore, SelectorsAreRead, WholesAreRead}
 use Rattle.tx_select.specs.declared.value.Compound.{Compound}
 use Rattle.tx_select.proofs.FoundWhole.{CompoundsFound, selector-found, whole-found}

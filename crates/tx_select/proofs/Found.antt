@@ -1,7 +1,7 @@
 -- The parts that are read are parts of the grammar.
-use Rattle.std.proofs.Common.{◌≡◌, ℕ, zero, suc, ◌+◌, ◌<◌, ◌≤◌, Bool, true, false, cond, ◌&&◌, List, [], ◌∷◌, ◌++◌, length, drop, Option, Some, None, Result, Ok, Err, codes, bytes_eq, refl, ap, sym, ◌∙◌, subst, arith, append_assoc, length-append}
+use Rattle.std.proofs.Common.{◌≡◌, ℕ, ◌+◌, ◌<◌, Bool, true, false, cond, ◌&&◌, List, [], ◌∷◌, ◌++◌, length, drop, Option, Some, None, Ok, bytes_eq, refl, ap, ◌∙◌, subst, arith, length-append}
 use Rattle.std.proofs.lemmas.Slice.Eq.{bytes_eq-Decides}
-use Rattle.tx_lex.specs.declared.token.TokenKind.TheVariants.{Name, Hash, Mark}
+use Rattle.tx_lex.specs.declared.token.TokenKind.TheVariants.{Hash, Mark}
 use Rattle.tx_tree.specs.Name.{is_name}
 use Rattle.tx_read.specs.Reading.{Shrinks}
 use Rattle.tx_select.specs.Lexemes.{Lexeme, is_name_token, is_hash, is_mark, begins_part, first_is}

@@ -1,9 +1,8 @@
 -- What is read is in the grammar.
 use Rattle.std.proofs.Common.{◌≡◌, ◌≢◌, ℕ, zero, suc, ◌≤◌, Bool, true, false, cond, ◌&&◌, ◌||◌, List, [], ◌∷◌, ◌++◌, length, Option, Some, None, Result, Ok, Err, refl, ap, sym, ◌∙◌, subst, arith, append_assoc}
 use Rattle.std.proofs.lemmas.List.{append-nil}
-use Rattle.tx_lex.specs.declared.token.TokenKind.TheVariants.{Mark}
 use Rattle.tx_tree.specs.Name.{is_name}
-use Rattle.tx_read.specs.Reading.{◌>>=◌, Run, with_items, whole, many, Items, StopsAt, IsFound}
+use Rattle.tx_read.specs.Reading.{◌>>=◌, with_items, many, Items, StopsAt, IsFound}
 use Rattle.tx_read.proofs.ManyItems.{many-found}
 use Rattle.tx_select.specs.Lexemes.{Lexeme, is_space, is_blank, is_name_token, is_mark, is_child_mark, begins_part, begins_compound, first_is}
 use Rattle.tx_select.specs.Grammar.{AreBlank, has_space, IsPart, AreParts, IsKind, IsCompound, IsCombinator, AreCompounds, child_of_first, IsSelector, IsWhole}

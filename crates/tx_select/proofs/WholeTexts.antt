@@ -5,7 +5,7 @@ use Rattle.tx_lex.specs.declared.token.Fault.{Fault}
 use Rattle.tx_select.specs.Lexemes.{Lexeme}
 use Rattle.tx_select.specs.Grammar.{IsWhole}
 use Rattle.tx_select.specs.Reads.{Read, whole_at}
-use Rattle.tx_select.specs.Texts.{tokens_of, end_of, place_of, IsSelectorText, StopsAtByte, StopsAtToken, NoneBeginsSo, judged, selector_of, GivesSelector, IsFirstFault}
+use Rattle.tx_select.specs.Texts.{tokens_of, end_of, place_of, IsSelectorText, StopsAtByte, StopsAtToken, judged, selector_of, GivesSelector, IsFirstFault}
 use Rattle.tx_select.specs.declared.value.Compound.{Compound}
 use Rattle.tx_select.specs.declared.value.Selector.{Selector}
 use Rattle.tx_select.specs.declared.fault.SelectKind.{SelectKind}

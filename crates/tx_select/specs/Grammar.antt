@@ -1,5 +1,5 @@
 -- The grammar of selectors over lists of tokens.
-use Rattle.std.specs.Prelude.{◌≡◌, ◌≢◌, ◌≤◌, ◌⊎◌, ℕ, Bool, true, false, List, [], ◌∷◌, ◌++◌, length, drop, Option, Some, None}
+use Rattle.std.specs.Prelude.{◌≡◌, ◌≢◌, ◌≤◌, ℕ, Bool, true, false, List, [], ◌∷◌, ◌++◌, length, drop, Option, Some, None}
 use Rattle.std.specs.List.{list_all, list_any}
 use Rattle.tx_lex.specs.declared.token.TokenKind.TheVariants.{Name, Hash, Mark}
 use Rattle.tx_tree.specs.Name.{IsName}

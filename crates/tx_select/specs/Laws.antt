@@ -1,5 +1,5 @@
 -- What holds of the reading of selectors.
-use Rattle.std.specs.Prelude.{◌≡◌, Bool, false, List, [], ◌++◌, Ok, Err}
+use Rattle.std.specs.Prelude.{◌≡◌, false, List, [], ◌++◌, Ok, Err}
 use Rattle.tx_select.specs.Lexemes.{Lexeme, goes_on, first_is}
 use Rattle.tx_select.specs.Grammar.{AreBlank, IsSelector, IsWhole}
 use Rattle.tx_select.specs.Reads.{selector_at, whole_at}

@@ -2,7 +2,7 @@
 use Rattle.std.specs.Prelude.{◌≡◌, ◌<◌, ℕ, ◌+◌, ◌-◌, Bool, true, false, ◌||◌, nat_eq, List, [], ◌∷◌, length, take, drop, map, Option, Some, None}
 use Rattle.tx_lex.specs.declared.token.Token.{Token}
 use Rattle.tx_lex.specs.declared.token.TokenKind.{TokenKind}
-use Rattle.tx_lex.specs.declared.token.TokenKind.TheVariants.{Space, Comment, Name, Hash, Variable, Number, Mark}
+use Rattle.tx_lex.specs.declared.token.TokenKind.TheVariants.{Space, Comment, Name, Hash, Mark}
 
 pub record Lexeme : Type 0 where
   pub kind : TokenKind

@@ -8,7 +8,6 @@ use Rattle.tx_select.specs.Grammar.{IsWhole}
 use Rattle.tx_select.specs.Reads.{Read, whole_at}
 use Rattle.tx_select.specs.declared.value.Compound.{Compound}
 use Rattle.tx_select.specs.declared.value.Selector.{Selector}
-use Rattle.tx_select.specs.declared.fault.SelectKind.{SelectKind}
 use Rattle.tx_select.specs.declared.fault.SelectFault.{SelectFault}
 use Rattle.tx_select.specs.declared.fault.SelectFault.TheVariants.{Grammar, NoMemory}
 use Rattle.tx_select.specs.declared.fault.TokenFault.{TokenFault}

@@ -1,4 +1,4 @@
-use Rattle.std.proofs.Common.{◌≡◌, Ok, ap, sym, ◌∙◌, length}
+use Rattle.std.proofs.Common.{Ok, ap, sym, ◌∙◌, length}
 use Rattle.tx_read.specs.Reading.{behind_items, many}
 use Rattle.tx_select.specs.Lexemes.{lexemes_from, first_is, begins_part}
 use Rattle.tx_select.specs.Reads.{part_at}
