@@ -1,7 +1,6 @@
 pub mod Again
 pub mod AgainWhole
 pub mod Cases
-pub mod Counts
 pub mod Exact
 pub mod Found
 pub mod FoundWhole

@@ -1,7 +1,7 @@
 //! How specific a selector is.
-ghost use Rattle.std.specs.Prelude.{◌≡◌, ◌<◌, ◌^◌};
-ghost use Rattle.std.specs.List.{count_by, sum_by};
-ghost use Rattle.tx_select.specs.Specificity.{is_id, is_class, has_kind, ids, classes, types, IsSmall};
+ghost use Rattle.std.specs.Prelude.{◌≡◌, ◌-◌, ◌^◌, min};
+ghost use Rattle.std.specs.List.{count_by};
+ghost use Rattle.tx_select.specs.Specificity.{is_id, is_class, has_kind, ids, classes, types};
 
 use crate::value::{Compound, Part, Selector};
 
@@ -47,44 +47,50 @@ fn classes_of(compound: &Compound) -> usize
         .count()
 }
 
-fn ids(compounds: &[Compound]) -> u32
-    requires { ids compounds.now < 2 ^ 32 }
-    ensures { result ≡ ids compounds.now }
+/// The count, or the greatest one of its type where it is above that.
+fn capped(count: usize) -> u32
+    ensures { result ≡ min count (2 ^ 32 - 1) }
 {
-    compounds
-        .iter()
-        .map(|compound| ids_of(compound))
-        .sum::<usize>() as u32
+    count.min(u32::MAX as usize) as u32
+}
+
+fn ids(compounds: &[Compound]) -> u32
+    ensures { result ≡ min (ids compounds.now) (2 ^ 32 - 1) }
+{
+    let mut count = 0u32;
+    for compound in compounds {
+        count = count.saturating_add(capped(ids_of(compound)));
+    }
+    count
 }
 
 fn classes(compounds: &[Compound]) -> u32
-    requires { classes compounds.now < 2 ^ 32 }
-    ensures { result ≡ classes compounds.now }
+    ensures { result ≡ min (classes compounds.now) (2 ^ 32 - 1) }
 {
-    compounds
-        .iter()
-        .map(|compound| classes_of(compound))
-        .sum::<usize>() as u32
+    let mut count = 0u32;
+    for compound in compounds {
+        count = count.saturating_add(capped(classes_of(compound)));
+    }
+    count
 }
 
 fn types(compounds: &[Compound]) -> u32
-    requires { types compounds.now < 2 ^ 32 }
-    ensures { result ≡ types compounds.now }
+    ensures { result ≡ min (types compounds.now) (2 ^ 32 - 1) }
 {
-    compounds
+    let count = compounds
         .iter()
         .filter(|compound| has_kind(compound))
-        .count() as u32
+        .count();
+    capped(count)
 }
 
 /// How many ids, how many classes and pseudo-classes, and how many names of kinds a selector has.
-/// It needs at most 16 compounds and fewer than 2^32 parts, and takes no memory.
-#[tactic(auto, using(crate::proofs::Counts::ids_small, crate::proofs::Counts::classes_small, crate::proofs::Counts::types_small))]
+/// A count that would pass 4,294,967,295 stands there, which no selector of fewer than 2^32 parts
+/// comes to. It takes no memory.
 pub fn specificity(selector: &Selector) -> (u32, u32, u32)
-    requires { IsSmall selector.now }
-    ensures ids { result.0 ≡ ids selector.now.compounds }
-    ensures classes { result.1 ≡ classes selector.now.compounds }
-    ensures types { result.2 ≡ types selector.now.compounds }
+    ensures ids { result.0 ≡ min (ids selector.now.compounds) (2 ^ 32 - 1) }
+    ensures classes { result.1 ≡ min (classes selector.now.compounds) (2 ^ 32 - 1) }
+    ensures types { result.2 ≡ min (types selector.now.compounds) (2 ^ 32 - 1) }
 {
     let compounds = selector.compounds.as_slice();
     (ids(compounds), classes(compounds), types(compounds))

@@ -71,7 +71,7 @@ fn reads(alloc: Global, text: &str, wanted: &str) -> Result<(), Fail> {
     };
     let spelled = spelling(alloc, &selector)?;
     expect(spelled.as_str() == wanted, "the selector")?;
-    let copy = selector.copy(alloc)?;
+    let copy = selector.copy()?;
     let spelled = spelling(alloc, &copy)?;
     expect(spelled.as_str() == wanted, "its copy")
 }

@@ -122,10 +122,10 @@ impl Compounds {
     }
 
     /// A second list that equals this one.
-    pub fn copy(&self, alloc: Global) -> Result<Compounds, NoMemory>
+    pub fn copy(&self) -> Result<Compounds, NoMemory>
         ensures { IfOk result (λ c. c ≡ self.now) }
     {
-        let items = copies(alloc, self.items.as_slice())?;
+        let items = copies(*self.items.allocator(), self.items.as_slice())?;
         Ok(Compounds { items })
     }
 }
@@ -155,11 +155,11 @@ pub struct Selector {
 
 impl Selector {
     /// A second selector that equals this one.
-    pub fn copy(&self, alloc: Global) -> Result<Selector, NoMemory>
+    pub fn copy(&self) -> Result<Selector, NoMemory>
         ensures { IfOk result (λ s. s ≡ self.now) }
     {
         Ok(Selector {
-            compounds: self.compounds.copy(alloc)?,
+            compounds: self.compounds.copy()?,
         })
     }
 }
