@@ -6,11 +6,13 @@
 
 mod bytes;
 pub mod laws;
+mod lexemes;
 mod lexer;
 mod number;
 #[cfg(test)]
 mod tests;
 mod token;
 
+pub use lexemes::{behind, token_at, token_bytes};
 pub use lexer::{scan, tokens};
 pub use token::{Fault, LexFault, LexKind, Scanned, Token, TokenKind, TokenList};

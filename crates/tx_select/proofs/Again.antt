@@ -6,7 +6,8 @@ use Rattle.tx_lex.specs.declared.token.TokenKind.TheVariants.{Space, Comment, Na
 use Rattle.tx_tree.specs.Name.{is_name}
 use Rattle.tx_read.specs.Reading.{◌>>=◌, Items, whole}
 use Rattle.tx_read.proofs.ManyItems.{many-again}
-use Rattle.tx_select.specs.Lexemes.{Lexeme, is_name_token, is_hash, is_mark, begins_part, begins_compound, first_is}
+use Rattle.tx_lex.specs.Lexemes.{Lexeme, is_name_token, is_hash, is_mark, first_is}
+use Rattle.tx_select.specs.Lexemes.{begins_part, begins_compound}
 use Rattle.tx_select.specs.Pseudo.{pseudo_name, pseudo_of}
 use Rattle.tx_select.specs.Grammar.{IsPart, AreParts, IsKind, IsCompound}
 use Rattle.tx_select.specs.Reads.{Read, id_at, class_at, known_pseudo, pseudo_at, part_at, parts_at, kind_at, compound_of, compound_at, expected}

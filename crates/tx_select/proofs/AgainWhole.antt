@@ -5,7 +5,8 @@ use Rattle.std.proofs.lemmas.List.{append-nil}
 use Rattle.tx_lex.specs.declared.token.TokenKind.{TokenKind}
 use Rattle.tx_lex.specs.declared.token.TokenKind.TheVariants.{Space, Comment, Name, Hash, Variable, Number, Mark}
 use Rattle.tx_read.specs.Reading.{◌>>=◌}
-use Rattle.tx_select.specs.Lexemes.{Lexeme, is_space, is_name_token, is_mark, is_blank, is_child_mark, begins_part, begins_compound, goes_on, first_is}
+use Rattle.tx_lex.specs.Lexemes.{Lexeme, is_space, is_name_token, is_mark, is_blank, first_is}
+use Rattle.tx_select.specs.Lexemes.{is_child_mark, begins_part, begins_compound, goes_on}
 use Rattle.tx_select.specs.Grammar.{AreBlank, has_space, IsCombinator, AreCompounds, child_of_first, IsWhole}
 use Rattle.tx_select.specs.Reads.{Read, compound_at, spaces_behind, spaces_at, joint_at, link_at, then_compounds, compounds_at, selector_at, ended, whole_at}
 use Rattle.tx_select.specs.Laws.{StandsBefore}

@@ -4,7 +4,7 @@ use Rattle.std.proofs.lemmas.Bool.{eqb-true}
 use Rattle.tx_lex.specs.declared.token.TokenKind.{TokenKind}
 use Rattle.tx_lex.specs.declared.token.TokenKind.TheVariants.{Space, Comment, Name, Hash, Variable, Number, Mark}
 use Rattle.tx_read.specs.Reading.{◌>>=◌}
-use Rattle.tx_select.specs.Lexemes.{Lexeme, is_name_token, is_hash, is_mark}
+use Rattle.tx_lex.specs.Lexemes.{Lexeme, is_name_token, is_hash, is_mark}
 use Rattle.tx_select.specs.Reads.{Read}
 use Rattle.tx_select.specs.declared.fault.SelectKind.{SelectKind}
 

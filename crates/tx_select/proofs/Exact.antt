@@ -1,6 +1,6 @@
 -- The laws of reading.
 use Rattle.std.proofs.Common.{◌≡◌, false, List, [], Ok}
-use Rattle.tx_select.specs.Lexemes.{Lexeme}
+use Rattle.tx_lex.specs.Lexemes.{Lexeme}
 use Rattle.tx_select.specs.Reads.{selector_at}
 use Rattle.tx_select.specs.Laws.{StandsBefore, SelectorsAreRead, WholesAreRead}
 use Rattle.tx_select.specs.declared.value.Compound.{Compound}

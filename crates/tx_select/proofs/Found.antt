@@ -4,7 +4,8 @@ use Rattle.std.proofs.lemmas.Slice.Eq.{bytes_eq-Decides}
 use Rattle.tx_lex.specs.declared.token.TokenKind.TheVariants.{Hash, Mark}
 use Rattle.tx_tree.specs.Name.{is_name}
 use Rattle.tx_read.specs.Reading.{Shrinks}
-use Rattle.tx_select.specs.Lexemes.{Lexeme, is_name_token, is_hash, is_mark, begins_part, first_is}
+use Rattle.tx_lex.specs.Lexemes.{Lexeme, is_name_token, is_hash, is_mark, first_is}
+use Rattle.tx_select.specs.Lexemes.{begins_part}
 use Rattle.tx_select.specs.Pseudo.{pseudo_name, pseudo_of}
 use Rattle.tx_select.specs.Grammar.{IsPart}
 use Rattle.tx_select.specs.Reads.{id_at, class_at, known_pseudo, pseudo_at, part_at, expected}

@@ -4,7 +4,8 @@ use Rattle.std.proofs.lemmas.List.{append-nil}
 use Rattle.tx_tree.specs.Name.{is_name}
 use Rattle.tx_read.specs.Reading.{◌>>=◌, with_items, many, Items, StopsAt, IsFound}
 use Rattle.tx_read.proofs.ManyItems.{many-found}
-use Rattle.tx_select.specs.Lexemes.{Lexeme, is_space, is_blank, is_name_token, is_mark, is_child_mark, begins_part, begins_compound, first_is}
+use Rattle.tx_lex.specs.Lexemes.{Lexeme, is_space, is_blank, is_name_token, is_mark, first_is}
+use Rattle.tx_select.specs.Lexemes.{is_child_mark, begins_part, begins_compound}
 use Rattle.tx_select.specs.Grammar.{AreBlank, has_space, IsPart, AreParts, IsKind, IsCompound, IsCombinator, AreCompounds, child_of_first, IsSelector, IsWhole}
 use Rattle.tx_select.specs.Reads.{Read, expected, part_at, parts_at, kind_at, compound_of, compound_at, spaces_behind, spaces_at, joint_at, link_at, then_compounds, compounds_at, selector_at, ended, whole_at}
 use Rattle.tx_select.specs.declared.value.Part.{Part}

@@ -5,7 +5,8 @@ use Rattle.tx_tree.specs.Name.{is_name}
 use Rattle.tx_read.specs.Reading.{in_turn, IsLocal, Leaves, ByFirst}
 use Rattle.tx_read.proofs.Locality.{in_turn-local, in_turn-leaves}
 use Rattle.tx_read.proofs.ManyLocal.{many-local, many-leaves}
-use Rattle.tx_select.specs.Lexemes.{Lexeme, is_space, is_blank, is_name_token, is_hash, is_mark, is_child_mark, begins_part, begins_compound, first_is}
+use Rattle.tx_lex.specs.Lexemes.{Lexeme, is_space, is_blank, is_name_token, is_hash, is_mark, first_is}
+use Rattle.tx_select.specs.Lexemes.{is_child_mark, begins_part, begins_compound}
 use Rattle.tx_select.specs.Pseudo.{pseudo_of}
 use Rattle.tx_select.specs.Grammar.{IsWhole}
 use Rattle.tx_select.specs.Reads.{Read, Reads, expected, give, class_at, known_pseudo, pseudo_at, part_at, parts_at, kind_at, compound_of, compound_at, spaces_behind, spaces_at, joint_at, link_at, then_compounds, compounds_at, selector_at, ended, whole_at}

@@ -9,7 +9,7 @@ use Rattle.tx_lex.specs.Lexing.{Spot, start_of, lexed}
 use Rattle.tx_lex.specs.IsLexed.{IsTokenAt, IsLexed}
 use Rattle.tx_lex.proofs.LongestTokens.{longest-some_bytes}
 use Rattle.tx_lex.proofs.Scanning.{lexed-exact}
-use Rattle.tx_select.specs.Lexemes.{Lexeme, lexeme}
+use Rattle.tx_lex.specs.Lexemes.{Lexeme, lexeme}
 use Rattle.tx_select.specs.Grammar.{AreParts, IsCompound, AreCompounds, IsWhole}
 use Rattle.tx_select.specs.Specificity.{IsSmall}
 use Rattle.tx_select.specs.Texts.{tokens_of, IsSelectorText}

@@ -4,7 +4,8 @@ use Rattle.std.proofs.lemmas.List.{append-nil}
 use Rattle.tx_lex.specs.declared.token.Token.{Token}
 use Rattle.tx_read.specs.Reading.{◌>>=◌, Run, behind_items, many, whole}
 use Rattle.tx_read.proofs.ManyItems.{many-item, many-end, many-fault}
-use Rattle.tx_select.specs.Lexemes.{Lexeme, lexeme, lexemes, lexemes_from, is_blank, is_space, begins_part, first_is}
+use Rattle.tx_lex.specs.Lexemes.{Lexeme, lexeme, lexemes, lexemes_from, is_blank, is_space, first_is}
+use Rattle.tx_select.specs.Lexemes.{begins_part}
 use Rattle.tx_select.specs.Reads.{Read, expected, spaces_behind, part_at, parts_at, compound_at, link_at, then_compounds, compounds_at}
 use Rattle.tx_select.specs.Texts.{Gives}
 use Rattle.tx_select.specs.declared.value.Part.{Part}

@@ -2,7 +2,7 @@
 use Rattle.std.proofs.Common.{◌≡◌, ◌⊎◌, inl, inr, ℕ, List, [], Option, Some, None, Result, Ok, Err, refl, ap, sym, ◌∙◌, subst, IfOk, IfErr}
 use Rattle.tx_lex.specs.Lexing.{lexed}
 use Rattle.tx_lex.specs.declared.token.Fault.{Fault}
-use Rattle.tx_select.specs.Lexemes.{Lexeme}
+use Rattle.tx_lex.specs.Lexemes.{Lexeme}
 use Rattle.tx_select.specs.Grammar.{IsWhole}
 use Rattle.tx_select.specs.Reads.{Read, whole_at}
 use Rattle.tx_select.specs.Texts.{tokens_of, end_of, place_of, IsSelectorText, StopsAtByte, StopsAtToken, judged, selector_of, GivesSelector, IsFirstFault}

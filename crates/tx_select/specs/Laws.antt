@@ -1,6 +1,7 @@
 -- What holds of the reading of selectors.
 use Rattle.std.specs.Prelude.{◌≡◌, false, List, [], ◌++◌, Ok, Err}
-use Rattle.tx_select.specs.Lexemes.{Lexeme, goes_on, first_is}
+use Rattle.tx_lex.specs.Lexemes.{Lexeme, first_is}
+use Rattle.tx_select.specs.Lexemes.{goes_on}
 use Rattle.tx_select.specs.Grammar.{AreBlank, IsSelector, IsWhole}
 use Rattle.tx_select.specs.Reads.{selector_at, whole_at}
 use Rattle.tx_select.specs.Texts.{NoneBeginsSo}

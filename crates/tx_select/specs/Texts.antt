@@ -3,7 +3,7 @@ use Rattle.std.specs.Prelude.{◌≡◌, ◌⊎◌, ℕ, List, [], ◌∷◌, �
 use Rattle.tx_lex.specs.Lexing.{lexed}
 use Rattle.tx_lex.specs.declared.token.Token.{Token}
 use Rattle.tx_lex.specs.declared.token.Fault.{Fault}
-use Rattle.tx_select.specs.Lexemes.{Lexeme, lexemes, lexemes_from}
+use Rattle.tx_lex.specs.Lexemes.{Lexeme, lexemes, lexemes_from}
 use Rattle.tx_select.specs.Grammar.{IsWhole}
 use Rattle.tx_select.specs.Reads.{Read, whole_at}
 use Rattle.tx_select.specs.declared.value.Compound.{Compound}

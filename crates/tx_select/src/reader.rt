@@ -5,20 +5,18 @@
 ghost use Rattle.std.specs.Prelude.{◌≡◌, ◌<◌, ℕ, List, Bool, true, length, ◌&&◌, ◌||◌, drop, IfOk, Some, None, if◌then◌else◌};
 ghost use Rattle.std.specs.Option.{SomeIff};
 ghost use Rattle.tx_tree.specs.Name.{IsName, is_name};
-ghost use Rattle.tx_select.specs.Lexemes.{token_bytes, lexeme, lexemes, lexemes_from, IsTokenAt, first_is, is_name_token, is_space, begins_part};
+ghost use Rattle.tx_lex.specs.Lexemes.{token_bytes, lexeme, lexemes, lexemes_from, IsNth, first_is, is_name_token, is_space};
+ghost use Rattle.tx_select.specs.Lexemes.{begins_part};
 ghost use Rattle.tx_select.specs.Reads.{class_at, pseudo_at, part_at, parts_at, kind_at, compound_at, spaces_at, joint_at, link_at, selector_at};
 ghost use Rattle.tx_select.specs.Texts.{Gives};
 ghost use Rattle.tx_select.specs.declared.fault.SelectKind.TheVariants.{Expected};
 ghost use Rattle.tx_select.specs.declared.fault.TokenFault.TheVariants.{At};
 
 use crate::fault::{SelectKind, TokenFault};
-use crate::lexemes::{
-    begins_compound, begins_part, behind, is_blank, is_child_mark, is_hash, is_mark, is_name_token,
-    is_space, name_of, pseudo_of, token_bytes,
-};
+use crate::lexemes::{begins_compound, begins_part, is_child_mark, name_of, pseudo_of};
 use crate::value::{Compound, Compounds, Part, Parts, Selector};
 use std::alloc::Global;
-use tx_lex::{Token, TokenKind};
+use tx_lex::{Token, TokenKind, behind, token_at, token_bytes};
 use tx_tree::Name;
 
 // The most compounds of a selector.
@@ -34,17 +32,6 @@ pub fn expected(at: usize) -> TokenFault
     }
 }
 
-/// The token of a number, where there is one.
-pub fn token(tokens: &[Token], at: usize) -> Option<Token>
-    ensures { IsTokenAt tokens.now at result }
-{
-    if at < tokens.len() {
-        Some(tokens[at])
-    } else {
-        None
-    }
-}
-
 /// The name behind the mark of a hash.
 fn id_of(text: &[u8], hash: Token) -> Option<Name>
     ensures { SomeIff result (IsName (drop 1 (token_bytes text.now hash))) (drop 1 (token_bytes text.now hash)) }
@@ -56,7 +43,7 @@ fn id_of(text: &[u8], hash: Token) -> Option<Name>
 fn name_in(text: &[u8], token: Token) -> Option<Name>
     ensures { result ≡ (if is_name_token token.kind && is_name (token_bytes text.now token) then Some (token_bytes text.now token) else None) }
 {
-    if is_name_token(token.kind) {
+    if token.kind.is_name() {
         name_of(token_bytes(text, token))
     } else {
         None
@@ -68,7 +55,7 @@ fn class(text: &[u8], tokens: &[Token], at: usize) -> Result<(Part, usize), Toke
     ensures gives { Gives text.now tokens.now result (class_at (lexemes_from text.now tokens.now at)) }
     ensures behind { IfOk result (λ found. at < found.1) }
 {
-    let Some(token) = token(tokens, at) else {
+    let Some(token) = token_at(tokens, at) else {
         return Err(expected(at));
     };
     match name_in(text, token) {
@@ -82,10 +69,10 @@ fn pseudo(text: &[u8], tokens: &[Token], at: usize) -> Result<(Part, usize), Tok
     ensures gives { Gives text.now tokens.now result (pseudo_at (lexemes_from text.now tokens.now at)) }
     ensures behind { IfOk result (λ found. at < found.1) }
 {
-    let Some(token) = token(tokens, at) else {
+    let Some(token) = token_at(tokens, at) else {
         return Err(expected(at));
     };
-    if !is_name_token(token.kind) {
+    if !token.kind.is_name() {
         return Err(expected(at));
     }
     match pseudo_of(token_bytes(text, token)) {
@@ -103,19 +90,19 @@ fn part(text: &[u8], tokens: &[Token], at: usize) -> Result<(Part, usize), Token
     ensures gives { Gives text.now tokens.now result (part_at (lexemes_from text.now tokens.now at)) }
     ensures behind { IfOk result (λ found. at < found.1) }
 {
-    let Some(first) = token(tokens, at) else {
+    let Some(first) = token_at(tokens, at) else {
         return Err(expected(at));
     };
-    if is_hash(first.kind) {
+    if first.kind.is_hash() {
         return match id_of(text, first) {
             Some(name) => Ok((Part::Id(name), at + 1)),
             None => Err(expected(at)),
         };
     }
-    if is_mark(b'.', first.kind) {
+    if first.kind.is_mark(b'.') {
         return class(text, tokens, at + 1);
     }
-    if is_mark(b':', first.kind) {
+    if first.kind.is_mark(b':') {
         return pseudo(text, tokens, at + 1);
     }
     Err(expected(at))
@@ -126,7 +113,7 @@ fn part_begins(tokens: &[Token], at: usize) -> bool
     ensures kind { (text : List ℕ) → result ≡ first_is begins_part (lexemes_from text tokens.now at) }
     ensures within { result ≡ true → at < length tokens.now }
 {
-    match token(tokens, at) {
+    match token_at(tokens, at) {
         Some(token) => begins_part(token.kind),
         None => false,
     }
@@ -162,16 +149,16 @@ fn parts(
 fn kind(text: &[u8], tokens: &[Token], at: usize) -> Result<(Option<Name>, usize), TokenFault>
     ensures { Gives text.now tokens.now result (kind_at (lexemes_from text.now tokens.now at)) }
 {
-    let Some(first) = token(tokens, at) else {
+    let Some(first) = token_at(tokens, at) else {
         return Err(expected(at));
     };
-    if is_name_token(first.kind) {
+    if first.kind.is_name() {
         return match name_of(token_bytes(text, first)) {
             Some(name) => Ok((Some(name), at + 1)),
             None => Err(expected(at)),
         };
     }
-    if is_mark(b'*', first.kind) {
+    if first.kind.is_mark(b'*') {
         return Ok((None, at + 1));
     }
     if begins_part(first.kind) {
@@ -211,7 +198,7 @@ fn compound(
 fn with_space(spaced: bool, kind: TokenKind) -> bool
     ensures { result ≡ (spaced || is_space kind) }
 {
-    spaced || is_space(kind)
+    spaced || kind.is_space()
 }
 
 /// Passes spaces and comments, and says whether there was a space.
@@ -221,8 +208,8 @@ pub fn spaces(tokens: &[Token], at: usize) -> (bool, usize)
 {
     let mut spaced = false;
     let mut behind = at;
-    while let Some(first) = token(tokens, behind) {
-        if !is_blank(first.kind) {
+    while let Some(first) = token_at(tokens, behind) {
+        if !first.kind.is_blank() {
             return (spaced, behind);
         }
         spaced = with_space(spaced, first.kind);
@@ -235,7 +222,7 @@ pub fn spaces(tokens: &[Token], at: usize) -> (bool, usize)
 fn joint(tokens: &[Token], at: usize, spaced: bool) -> (Option<bool>, usize)
     ensures { (text : List ℕ) → joint_at spaced (lexemes_from text tokens.now at) ≡ (result.0, lexemes_from text tokens.now result.1) }
 {
-    let Some(first) = token(tokens, at) else {
+    let Some(first) = token_at(tokens, at) else {
         return (None, at);
     };
     if is_child_mark(first.kind) {

@@ -1,16 +1,16 @@
 //! Selectors that stand among tokens, and those that are a whole text.
 ghost use Rattle.std.specs.Prelude.{◌≡◌, ◌<◌, ◌^◌, ℕ, List, length, IfOk, IfErr, Ok};
-ghost use Rattle.tx_select.specs.Lexemes.{lexemes, lexemes_from};
+ghost use Rattle.tx_lex.specs.Lexemes.{lexemes, lexemes_from};
 ghost use Rattle.tx_select.specs.Reads.{selector_at, whole_at, ended};
 ghost use Rattle.tx_select.specs.Specificity.{IsSmall};
 ghost use Rattle.tx_select.specs.Texts.{Gives, GivesFrom, GivesSelector, end_of, place_of, selector_of, IsSelectorText, IsFirstFault};
 ghost use Rattle.tx_select.specs.declared.value.Selector.{Selector};
 
 use crate::fault::{SelectFault, TokenFault};
-use crate::reader::{compounds, expected, spaces, token};
+use crate::reader::{compounds, expected, spaces};
 use crate::value::{Compounds, Selector};
 use std::alloc::Global;
-use tx_lex::{Fault, Scanned, Token, scan};
+use tx_lex::{Fault, Scanned, Token, scan, token_at};
 
 /// Reads the selector that begins at the token of this number, with the spaces and comments behind
 /// it, and answers it with the number of the token behind them. It reads as far as a selector can
@@ -46,7 +46,7 @@ fn whole(alloc: Global, text: &[u8], tokens: &[Token]) -> Result<(Compounds, usi
 fn ended(tokens: &[Token], found: (Compounds, usize)) -> Result<(Compounds, usize), TokenFault>
     ensures { (text : List ℕ) → Gives text tokens.now result (ended found.0 (lexemes_from text tokens.now found.1)) }
 {
-    match token(tokens, found.1) {
+    match token_at(tokens, found.1) {
         Some(_) => Err(expected(found.1)),
         None => Ok(found),
     }

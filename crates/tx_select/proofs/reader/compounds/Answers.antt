@@ -1,5 +1,5 @@
 use Rattle.std.proofs.Common.{◌≡◌, ◌+◌, ◌-◌, ◌≤◌, ◌<◌, ℕ, suc, Ok, Err, ap, sym, ◌∙◌, subst, arith}
-use Rattle.tx_select.specs.Lexemes.{lexemes_from}
+use Rattle.tx_lex.specs.Lexemes.{lexemes_from}
 use Rattle.tx_select.specs.Reads.{compounds_at, selector_at}
 use Rattle.tx_select.specs.Texts.{Gives}
 use Rattle.tx_select.proofs.Steps.{with_front, compounds-next, compounds-last, compounds-err, compounds-past}

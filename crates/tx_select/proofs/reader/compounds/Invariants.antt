@@ -1,5 +1,5 @@
 use Rattle.std.proofs.Common.{◌≡◌, ◌-◌}
-use Rattle.tx_select.specs.Lexemes.{lexemes_from}
+use Rattle.tx_lex.specs.Lexemes.{lexemes_from}
 use Rattle.tx_select.specs.Reads.{compounds_at, selector_at}
 use Rattle.tx_select.proofs.Steps.{with_front}
 use Rattle.tx_select.proofs.reader.compounds.Given as goal

@@ -1,6 +1,7 @@
 use Rattle.std.proofs.Common.{◌≡◌, ◌-◌, length}
 use Rattle.tx_read.specs.Reading.{behind_items, many}
-use Rattle.tx_select.specs.Lexemes.{lexemes_from, first_is, begins_part}
+use Rattle.tx_lex.specs.Lexemes.{lexemes_from, first_is}
+use Rattle.tx_select.specs.Lexemes.{begins_part}
 use Rattle.tx_select.specs.Reads.{part_at}
 use Rattle.tx_select.proofs.reader.parts.Given as goal
 

@@ -1,5 +1,5 @@
 use Rattle.std.proofs.Common.{◌≡◌, ◌-◌, ℕ, List, false, length}
-use Rattle.tx_select.specs.Lexemes.{lexemes_from}
+use Rattle.tx_lex.specs.Lexemes.{lexemes_from}
 use Rattle.tx_select.specs.Reads.{spaces_behind}
 use Rattle.tx_select.proofs.reader.spaces.Given as goal
 

@@ -1,0 +1,102 @@
+//! Tokens as readers of grammars see them.
+ghost use Rattle.std.specs.Prelude.{◌≡◌, take, drop};
+ghost use Rattle.tx_lex.specs.Lexemes.{token_bytes, IsNth, is_space, is_blank, is_name_token, is_hash, is_variable, is_number, is_mark};
+
+use crate::token::{Token, TokenKind};
+
+impl TokenKind {
+    /// Whether this is a space.
+    pub fn is_space(self) -> bool
+        ensures { result ≡ is_space self }
+    {
+        matches!(self, TokenKind::Space)
+    }
+
+    /// Whether this is a space or a comment.
+    pub fn is_blank(self) -> bool
+        ensures { result ≡ is_blank self }
+    {
+        matches!(self, TokenKind::Space | TokenKind::Comment)
+    }
+
+    /// Whether this is a name.
+    pub fn is_name(self) -> bool
+        ensures { result ≡ is_name_token self }
+    {
+        matches!(self, TokenKind::Name)
+    }
+
+    /// Whether this is a hash.
+    pub fn is_hash(self) -> bool
+        ensures { result ≡ is_hash self }
+    {
+        matches!(self, TokenKind::Hash)
+    }
+
+    /// Whether this is a variable.
+    pub fn is_variable(self) -> bool
+        ensures { result ≡ is_variable self }
+    {
+        matches!(self, TokenKind::Variable)
+    }
+
+    /// Whether this is a number.
+    pub fn is_number(self) -> bool
+        ensures { result ≡ is_number self }
+    {
+        matches!(self, TokenKind::Number)
+    }
+
+    /// Whether this is the mark of this byte.
+    pub fn is_mark(self, byte: u8) -> bool
+        ensures { result ≡ is_mark byte self }
+    {
+        match self {
+            TokenKind::Mark(mark) => mark == byte,
+            _ => false,
+        }
+    }
+}
+
+/// What stands from a number on; nothing where there is no more.
+pub fn behind<T>(items: &[T], count: usize) -> &[T]
+    ensures { result.now ≡ drop count items.now }
+{
+    if count < items.len() {
+        let (_, rest) = items.split_at(count);
+        rest
+    } else {
+        &[]
+    }
+}
+
+/// The first ones, so many or all.
+fn front(bytes: &[u8], count: usize) -> &[u8]
+    ensures { result.now ≡ take count bytes.now }
+{
+    if count < bytes.len() {
+        let (front, _) = bytes.split_at(count);
+        front
+    } else {
+        bytes
+    }
+}
+
+/// The bytes of a token of a text, as far as they are there.
+pub fn token_bytes(text: &[u8], token: Token) -> &[u8]
+    ensures { result.now ≡ token_bytes text.now token }
+{
+    let rest = behind(text, token.from as usize);
+    front(rest, token.to.saturating_sub(token.from) as usize)
+}
+
+/// The token of a number, counted from 0, where there is one.
+pub fn token_at(tokens: &[Token], at: usize) -> Option<Token>
+    ensures { IsNth tokens.now at result }
+{
+    if at < tokens.len() {
+        Some(tokens[at])
+    } else {
+        None
+    }
+}
