@@ -10,7 +10,7 @@ use Rattle.tx_select.specs.Lexemes.{is_child_mark, begins_part, begins_compound}
 use Rattle.tx_select.specs.Pseudo.{pseudo_of}
 use Rattle.tx_select.specs.Grammar.{IsWhole}
 use Rattle.tx_select.specs.Reads.{Read, Reads, expected, give, class_at, known_pseudo, pseudo_at, part_at, parts_at, kind_at, compound_of, compound_at, spaces_behind, spaces_at, joint_at, link_at, then_compounds, compounds_at, selector_at, ended, whole_at}
-use Rattle.tx_select.specs.Laws.{FaultsAreFirst}
+use Rattle.tx_select.specs.Laws.{SelectorsAreLocal, FaultsAreFirst}
 use Rattle.tx_select.specs.declared.value.Part.{Part}
 use Rattle.tx_select.specs.declared.value.Part.TheVariants.{Id, Class, Pseudo}
 use Rattle.tx_select.specs.declared.value.PseudoName.{PseudoName}
@@ -371,6 +371,9 @@ compounds-plain (suc most) child =
 selector-plain : Plain selector_at
 unfolding selector_at
 selector-plain = compounds-plain 16 false
+
+pub selectors-local : SelectorsAreLocal
+selectors-local = (selector-plain.local, selector-plain.leaves)
 
 ended-plain : (compounds : List Compound) → Plain (ended compounds)
 ended-plain compounds = same (ended compounds) (by_first (Ok compounds) (λ t. Refuse Expected)) of (first-plain (Ok compounds) (λ t. Refuse Expected))

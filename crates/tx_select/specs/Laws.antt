@@ -1,5 +1,6 @@
 -- What holds of the reading of selectors.
 use Rattle.std.specs.Prelude.{◌≡◌, false, List, [], ◌++◌, Ok, Err}
+use Rattle.tx_read.specs.Reading.{IsLocal, Leaves}
 use Rattle.tx_lex.specs.Lexemes.{Lexeme, first_is}
 use Rattle.tx_select.specs.Lexemes.{goes_on}
 use Rattle.tx_select.specs.Grammar.{AreBlank, IsSelector, IsWhole}
@@ -22,6 +23,10 @@ abbrev pub SelectorsAreRead : Type 0
 SelectorsAreRead = (ts : List Lexeme) (compounds : List Compound) (rest : List Lexeme)
     → (selector_at ts ≡ Ok (compounds, rest) → StandsBefore ts compounds rest)
     × (StandsBefore ts compounds rest → first_is goes_on rest ≡ false → selector_at ts ≡ Ok (compounds, rest))
+
+-- What is read looks at nothing behind the token at which it stops, and what is left is an end of the tokens.
+abbrev pub SelectorsAreLocal : Type 0
+SelectorsAreLocal = IsLocal selector_at × Leaves selector_at
 
 -- a list of tokens is read exactly where it is in the grammar
 abbrev pub WholesAreRead : Type 0

@@ -1,10 +1,16 @@
 //! What holds of the definitions.
-ghost use Rattle.tx_select.specs.Laws.{SelectorsAreRead, WholesAreRead, FaultsAreFirst};
+ghost use Rattle.tx_select.specs.Laws.{SelectorsAreRead, SelectorsAreLocal, WholesAreRead, FaultsAreFirst};
 
 /// A selector that stands among other tokens is read where it is in the grammar, and what is read
 /// is in the grammar.
 pub fn selectors_are_read()
     ensures { SelectorsAreRead }
+{}
+
+/// What is read of a selector that stands among other tokens, and a fault in it, depend on nothing
+/// behind the token at which the reading stops.
+pub fn selectors_are_local()
+    ensures { SelectorsAreLocal }
 {}
 
 /// A list of tokens is read exactly where the whole of it is a selector with spaces and comments

@@ -20,6 +20,28 @@ pub enum PseudoName {
     LastChild,
 }
 
+impl PseudoName {
+    ghost use Rattle.tx_select.specs.Pseudo.{pseudo_name};
+
+    /// The name, as it stands behind the `:`.
+    pub fn name(self) -> &'static str
+        ensures { result.now ≡ pseudo_name self }
+    {
+        match self {
+            PseudoName::Hover => "hover",
+            PseudoName::Focus => "focus",
+            PseudoName::FocusWithin => "focus-within",
+            PseudoName::Blur => "blur",
+            PseudoName::Enabled => "enabled",
+            PseudoName::Disabled => "disabled",
+            PseudoName::Dark => "dark",
+            PseudoName::Light => "light",
+            PseudoName::FirstChild => "first-child",
+            PseudoName::LastChild => "last-child",
+        }
+    }
+}
+
 /// What a row must have beside its kind.
 #[derive(Clone, Copy, Debug)]
 pub enum Part {

@@ -1,0 +1,5 @@
+use Rattle.tx_select.proofs.Local.{selectors-local}
+use Rattle.tx_select.proofs.laws.selectors_are_local.Goals as goal
+
+pub returns : goal.returns
+returns c = selectors-local
