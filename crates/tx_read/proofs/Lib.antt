@@ -1,3 +1,4 @@
+pub mod LocalReaders
 pub mod Locality
 pub mod ManyItems
 pub mod ManyLocal

@@ -14,7 +14,8 @@ use Rattle.tx_select.specs.declared.value.Part.TheVariants.{Id, Class, Pseudo}
 use Rattle.tx_select.specs.declared.value.PseudoName.{PseudoName}
 use Rattle.tx_select.specs.declared.value.PseudoName.TheVariants.{Hover, Focus, FocusWithin, Blur, Enabled, Disabled, Dark, Light, FirstChild, LastChild}
 use Rattle.tx_select.specs.declared.fault.SelectKind.TheVariants.{Expected, UnknownPseudo}
-use Rattle.tx_select.proofs.Cases.{Gave, given, refused, mark-kind, name-kind, hash-kind}
+use Rattle.tx_lex.proofs.TokenKinds.{mark-kind, name-kind, hash-kind}
+use Rattle.tx_select.proofs.Cases.{Gave, given, refused}
 
 -- tokens of which the first ones are so
 abbrev pub Takes : (List Lexeme → Type 0) → List Lexeme → List Lexeme → Type 0

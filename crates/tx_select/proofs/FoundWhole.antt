@@ -12,7 +12,8 @@ use Rattle.tx_select.specs.declared.value.Part.{Part}
 use Rattle.tx_select.specs.declared.value.Compound.{Compound}
 use Rattle.tx_select.specs.declared.fault.SelectKind.{SelectKind}
 use Rattle.tx_select.specs.declared.fault.SelectKind.TheVariants.{Expected}
-use Rattle.tx_select.proofs.Cases.{Gave, given, refused, both, mark-kind, name-kind}
+use Rattle.tx_lex.proofs.TokenKinds.{mark-kind, name-kind}
+use Rattle.tx_select.proofs.Cases.{Gave, given, refused, both}
 use Rattle.tx_select.proofs.Found.{Takes, part-found, parts-shrink}
 
 -- ---- parts

@@ -3,7 +3,7 @@ use Rattle.std.proofs.Common.{◌≡◌, ℕ, zero, suc, ◌+◌, Bool, true, fa
 use Rattle.std.proofs.lemmas.List.{append_cancel_right}
 use Rattle.tx_tree.specs.Name.{is_name}
 use Rattle.tx_read.specs.Reading.{in_turn, IsLocal, Leaves, ByFirst}
-use Rattle.tx_read.proofs.Locality.{in_turn-local, in_turn-leaves}
+use Rattle.tx_read.proofs.LocalReaders.{Plain, granted, no_longer, turn, same, Step, Take, Leave, Refuse, stepped, by_first, first-plain, give-plain}
 use Rattle.tx_read.proofs.ManyLocal.{many-local, many-leaves}
 use Rattle.tx_lex.specs.Lexemes.{Lexeme, is_space, is_blank, is_name_token, is_hash, is_mark, first_is}
 use Rattle.tx_select.specs.Lexemes.{is_child_mark, begins_part, begins_compound}
@@ -22,134 +22,6 @@ use Rattle.tx_select.proofs.Found.{parts-shrink}
 use Rattle.tx_select.proofs.FoundWhole.{SpacesFound, spaces-found}
 use Rattle.tx_select.proofs.AgainWhole.{whole-again}
 
-abbrev Failed : {A : Type 0} → Read A → SelectKind → List Lexeme → Type 0
-Failed read kind rest = read ≡ Err (kind, rest)
-
-wrong : {A : Type 0} (k l : SelectKind) (s t : List Lexeme) → Failed {A = A} (Err (k, s)) l t → (k ≡ l) × (s ≡ t)
-wrong {A = A} k l s t is = let pair : ◌≡◌ {A = SelectKind × List Lexeme} (k, s) (l, t) = cc in (ap (λ (p : SelectKind × List Lexeme). p.0) pair, ap (λ (p : SelectKind × List Lexeme). p.1) pair)
-
-granted : {A : Type 0} (found : A × List Lexeme) (kind : SelectKind) (t : List Lexeme) → Failed (Ok found) kind t → ⊥
-granted found kind t is = cc
-
--- a reader of which both hold
-record Plain {A : Type 0} (reader : Reads A) : Type 0 where
-  local : IsLocal reader
-  leaves : Leaves reader
-
-turn : {A B : Type 0} (first : Reads A) (second : A → Reads B) → Plain first → ((a : A) → Plain (second a)) → Plain (in_turn first second)
-turn first second p q = record {
-  local = in_turn-local first second p.local p.leaves (λ a. (q a).local) (λ a. (q a).leaves);
-  leaves = in_turn-leaves first second p.leaves (λ a. (q a).leaves);
-}
-
-same : {A : Type 0} (one two : Reads A) → ((ts : List Lexeme) → one ts ≡ two ts) → Plain two → Plain one
-same one two e p = record {
-  local = record {
-    value = λ front more other t a is. e (front ++ (t ∷ other)) ∙ p.local.value front more other t a (sym (e (front ++ (t ∷ more))) ∙ is);
-    fault = λ front more other t kind is. e (front ++ (t ∷ other)) ∙ p.local.fault front more other t kind (sym (e (front ++ (t ∷ more))) ∙ is);
-  };
-  leaves = record {
-    value = λ xs rest a is. p.leaves.value xs rest a (sym (e xs) ∙ is);
-    fault = λ xs rest kind is. p.leaves.fault xs rest kind (sym (e xs) ∙ is);
-  };
-}
-
--- ---- readers that go by the first token
-
-data Step (A : Type 0) : Type 0 where
-  Take : A → Step A
-  Leave : A → Step A
-  Refuse : SelectKind → Step A
-
-abbrev stepped : {A : Type 0} → Lexeme → List Lexeme → Step A → Read A
-stepped t ts (Take a) = Ok (a, ts)
-stepped t ts (Leave a) = Ok (a, t ∷ ts)
-stepped t ts (Refuse kind) = Err (kind, t ∷ ts)
-
-abbrev at_end : {A : Type 0} → Result A SelectKind → Read A
-at_end (Ok a) = Ok (a, [])
-at_end (Err kind) = Err (kind, [])
-
-abbrev by_first : {A : Type 0} → Result A SelectKind → (Lexeme → Step A) → Reads A
-by_first end step [] = at_end end
-by_first end step (t ∷ ts) = stepped t ts (step t)
-
--- a list isn't one that is longer
-no_longer : (front xs : List Lexeme) (t : Lexeme) → (t ∷ front) ++ xs ≡ xs → ⊥
-no_longer front xs t is =
-    let clash : t ∷ front ≡ [] = append_cancel_right (t ∷ front) [] xs is in cc
-
-here-value : {A : Type 0} (t : Lexeme) (more other : List Lexeme) (a : A) (step : Step A) → Gave (stepped t more step) a (t ∷ more) → Gave (stepped t other step) a (t ∷ other)
-here-value t more other a (Take b) is = absurd (no_longer [] more t (sym (given b a more (t ∷ more) is).1))
-here-value t more other a (Leave b) is = ap (λ x. Ok (x, t ∷ other)) (given b a (t ∷ more) (t ∷ more) is).0
-here-value t more other a (Refuse kind) is = absurd (refused (kind, t ∷ more) a (t ∷ more) is)
-
-here-fault : {A : Type 0} (t : Lexeme) (more other : List Lexeme) (kind : SelectKind) (step : Step A) → Failed (stepped t more step) kind (t ∷ more) → Failed (stepped t other step) kind (t ∷ other)
-here-fault t more other kind (Take b) is = absurd (granted (b, more) kind (t ∷ more) is)
-here-fault t more other kind (Leave b) is = absurd (granted (b, t ∷ more) kind (t ∷ more) is)
-here-fault {A = A} t more other kind (Refuse one) is = ap (λ k. Err (k, t ∷ other)) (wrong {A = A} one kind (t ∷ more) (t ∷ more) is).0
-
-there-value : {A : Type 0} (x t : Lexeme) (front more other : List Lexeme) (a : A) (step : Step A) → Gave (stepped x (front ++ (t ∷ more)) step) a (t ∷ more) → Gave (stepped x (front ++ (t ∷ other)) step) a (t ∷ other)
-there-value x t front more other a (Take b) is =
-    let parts : (b ≡ a) × (front ++ (t ∷ more) ≡ t ∷ more) = given b a (front ++ (t ∷ more)) (t ∷ more) is in
-    let none : front ≡ [] = append_cancel_right front [] (t ∷ more) parts.1 in
-    ap (λ f. Ok (b, f ++ (t ∷ other))) none ∙ ap (λ v. Ok (v, t ∷ other)) parts.0
-there-value x t front more other a (Leave b) is = absurd (no_longer front (t ∷ more) x (given b a (x ∷ (front ++ (t ∷ more))) (t ∷ more) is).1)
-there-value x t front more other a (Refuse kind) is = absurd (refused (kind, x ∷ (front ++ (t ∷ more))) a (t ∷ more) is)
-
-there-fault : {A : Type 0} (x t : Lexeme) (front more other : List Lexeme) (kind : SelectKind) (step : Step A) → Failed (stepped x (front ++ (t ∷ more)) step) kind (t ∷ more) → Failed (stepped x (front ++ (t ∷ other)) step) kind (t ∷ other)
-there-fault x t front more other kind (Take b) is = absurd (granted (b, front ++ (t ∷ more)) kind (t ∷ more) is)
-there-fault x t front more other kind (Leave b) is = absurd (granted (b, x ∷ (front ++ (t ∷ more))) kind (t ∷ more) is)
-there-fault {A = A} x t front more other kind (Refuse one) is = absurd (no_longer front (t ∷ more) x (wrong {A = A} one kind (x ∷ (front ++ (t ∷ more))) (t ∷ more) is).1)
-
-stepped-value : {A : Type 0} (t : Lexeme) (ts rest : List Lexeme) (a : A) (step : Step A) → Gave (stepped t ts step) a rest → (piece : List Lexeme) × (t ∷ ts ≡ piece ++ rest)
-stepped-value t ts rest a (Take b) is = (t ∷ [], ap (λ xs. t ∷ xs) (given b a ts rest is).1)
-stepped-value t ts rest a (Leave b) is = ([], (given b a (t ∷ ts) rest is).1)
-stepped-value t ts rest a (Refuse kind) is = absurd (refused (kind, t ∷ ts) a rest is)
-
-stepped-fault : {A : Type 0} (t : Lexeme) (ts rest : List Lexeme) (kind : SelectKind) (step : Step A) → Failed (stepped t ts step) kind rest → (piece : List Lexeme) × (t ∷ ts ≡ piece ++ rest)
-stepped-fault t ts rest kind (Take b) is = absurd (granted (b, ts) kind rest is)
-stepped-fault t ts rest kind (Leave b) is = absurd (granted (b, t ∷ ts) kind rest is)
-stepped-fault {A = A} t ts rest kind (Refuse one) is = ([], (wrong {A = A} one kind (t ∷ ts) rest is).1)
-
-end-value : {A : Type 0} (end : Result A SelectKind) (a : A) (rest : List Lexeme) → Gave (at_end end) a rest → [] ≡ rest
-end-value (Ok b) a rest is = (given b a [] rest is).1
-end-value (Err kind) a rest is = absurd (refused (kind, []) a rest is)
-
-end-fault : {A : Type 0} (end : Result A SelectKind) (kind : SelectKind) (rest : List Lexeme) → Failed (at_end end) kind rest → [] ≡ rest
-end-fault (Ok b) kind rest is = absurd (granted (b, []) kind rest is)
-end-fault {A = A} (Err one) kind rest is = (wrong {A = A} one kind [] rest is).1
-
-first-plain : {A : Type 0} (end : Result A SelectKind) (step : Lexeme → Step A) → Plain (by_first end step)
-first-plain {A = A} end step = record {
-  local = record { value = value; fault = fault };
-  leaves = record { value = left; fault = left_fault };
-}
-  where
-    value : (front more other : List Lexeme) (t : Lexeme) (a : A) → by_first end step (front ++ (t ∷ more)) ≡ Ok (a, t ∷ more) → by_first end step (front ++ (t ∷ other)) ≡ Ok (a, t ∷ other)
-    value [] more other t a is = here-value t more other a (step t) is
-    value (x ∷ front) more other t a is = there-value x t front more other a (step x) is
-
-    fault : (front more other : List Lexeme) (t : Lexeme) (kind : SelectKind) → by_first end step (front ++ (t ∷ more)) ≡ Err (kind, t ∷ more) → by_first end step (front ++ (t ∷ other)) ≡ Err (kind, t ∷ other)
-    fault [] more other t kind is = here-fault t more other kind (step t) is
-    fault (x ∷ front) more other t kind is = there-fault x t front more other kind (step x) is
-
-    left : (xs rest : List Lexeme) (a : A) → by_first end step xs ≡ Ok (a, rest) → (piece : List Lexeme) × (xs ≡ piece ++ rest)
-    left [] rest a is = ([], end-value end a rest is)
-    left (t ∷ ts) rest a is = stepped-value t ts rest a (step t) is
-
-    left_fault : (xs rest : List Lexeme) (kind : SelectKind) → by_first end step xs ≡ Err (kind, rest) → (piece : List Lexeme) × (xs ≡ piece ++ rest)
-    left_fault [] rest kind is = ([], end-fault end kind rest is)
-    left_fault (t ∷ ts) rest kind is = stepped-fault t ts rest kind (step t) is
-
--- a reader that takes nothing
-give-plain : {A : Type 0} (a : A) → Plain (give a)
-give-plain a = same (give a) (by_first (Ok a) (λ t. Leave a)) of (first-plain (Ok a) (λ t. Leave a))
-  where
-    of : (ts : List Lexeme) → give a ts ≡ by_first (Ok a) (λ t. Leave a) ts
-    of [] = refl
-    of (t ∷ ts) = refl
-
 expected-plain : {A : Type 0} → Plain {A = A} expected
 expected-plain {A = A} = same expected (by_first {A = A} (Err Expected) (λ t. Refuse Expected)) of (first-plain (Err Expected) (λ t. Refuse Expected))
   where
@@ -159,7 +31,7 @@ expected-plain {A = A} = same expected (by_first {A = A} (Err Expected) (λ t. R
 
 -- ---- parts
 
-class_step : Lexeme → Step Part
+class_step : Lexeme → Step SelectKind Part
 class_step t = cond (is_name_token t.kind && is_name t.bytes) (Take (Class t.bytes)) (Refuse Expected)
 
 class-plain : Plain class_at
@@ -174,11 +46,11 @@ class-plain = same class_at (by_first (Err Expected) class_step) of (first-plain
     of [] = refl
     of (t ∷ ts) = chosen t ts (is_name_token t.kind && is_name t.bytes)
 
-abbrev known_step : Option PseudoName → Step Part
+abbrev known_step : Option PseudoName → Step SelectKind Part
 known_step (Some pseudo) = Take (Pseudo pseudo)
 known_step None = Refuse UnknownPseudo
 
-pseudo_step : Lexeme → Step Part
+pseudo_step : Lexeme → Step SelectKind Part
 pseudo_step t = cond (is_name_token t.kind) (known_step (pseudo_of t.bytes)) (Refuse Expected)
 
 pseudo-plain : Plain pseudo_at
@@ -210,11 +82,11 @@ rest-plain (Done part) = give-plain part
 rest-plain ClassNext = class-plain
 rest-plain PseudoNext = pseudo-plain
 
-abbrev sort_by : Lexeme → Bool → Bool → Bool → Bool → Step Sort
+abbrev sort_by : Lexeme → Bool → Bool → Bool → Bool → Step SelectKind Sort
 sort_by t hash named point colon =
     cond hash (cond named (Take (Done (Id (drop 1 t.bytes)))) (Refuse Expected)) (cond point (Take ClassNext) (cond colon (Take PseudoNext) (Refuse Expected)))
 
-sort_step : Lexeme → Step Sort
+sort_step : Lexeme → Step SelectKind Sort
 sort_step t = sort_by t (is_hash t.kind) (is_name (drop 1 t.bytes)) (is_mark 46 t.kind) (is_mark 58 t.kind)
 
 part-plain : Plain part_at
@@ -246,11 +118,11 @@ parts-plain = record {
 
 -- ---- compounds
 
-abbrev kind_by : Lexeme → Bool → Bool → Bool → Bool → Step (Option (List ℕ))
+abbrev kind_by : Lexeme → Bool → Bool → Bool → Bool → Step SelectKind (Option (List ℕ))
 kind_by t name named star part =
     cond name (cond named (Take (Some t.bytes)) (Refuse Expected)) (cond star (Take None) (cond part (Leave None) (Refuse Expected)))
 
-kind_step : Lexeme → Step (Option (List ℕ))
+kind_step : Lexeme → Step SelectKind (Option (List ℕ))
 kind_step t = kind_by t (is_name_token t.kind) (is_name t.bytes) (is_mark 42 t.kind) (begins_part t.kind)
 
 kind-plain : Plain kind_at
@@ -304,7 +176,7 @@ spaces-value spaced (x ∷ front) more other t b is = of (is_blank x.kind) is (s
 whole_pair : (found : Bool × List Lexeme) (b : Bool) (rest : List Lexeme) → Gave (Ok found) b rest → found ≡ (b, rest)
 whole_pair found b rest is = cc
 
-spaces-plain : Plain (λ ts. Ok (spaces_at ts))
+spaces-plain : Plain {T = Lexeme} {F = SelectKind} (λ ts. Ok (spaces_at ts))
 unfolding spaces_at
 spaces-plain = record {
   local = record {
@@ -320,10 +192,10 @@ spaces-plain = record {
     left : (xs rest : List Lexeme) (b : Bool) → SpacesFound false xs (spaces_behind false xs) → spaces_behind false xs ≡ (b, rest) → (piece : List Lexeme) × (xs ≡ piece ++ rest)
     left xs rest b found is = (found.blank, found.parts ∙ ap (λ (p : Bool × List Lexeme). found.blank ++ p.1) is)
 
-abbrev joint_by : Bool → Bool → Step (Option Bool)
+abbrev joint_by : Bool → Bool → Step SelectKind (Option Bool)
 joint_by mark compound = cond mark (Take (Some true)) (cond compound (Leave (Some false)) (Leave None))
 
-joint_step : Bool → Lexeme → Step (Option Bool)
+joint_step : Bool → Lexeme → Step SelectKind (Option Bool)
 joint_step spaced t = joint_by (is_child_mark t.kind) (spaced && begins_compound t.kind)
 
 abbrev joint_rest : Option Bool → Reads (Option Bool)
@@ -336,7 +208,7 @@ joint_rest-plain None = give-plain None
 joint_rest-plain (Some false) = give-plain (Some false)
 joint_rest-plain (Some true) = turn (λ ts. Ok (spaces_at ts)) (λ spaced. give (Some true)) spaces-plain (λ spaced. give-plain (Some true))
 
-joint-plain : (spaced : Bool) → Plain (λ ts. Ok (joint_at spaced ts))
+joint-plain : (spaced : Bool) → Plain {T = Lexeme} {F = SelectKind} (λ ts. Ok (joint_at spaced ts))
 unfolding joint_step
 joint-plain spaced = same (λ ts. Ok (joint_at spaced ts)) (in_turn (by_first (Ok None) (joint_step spaced)) joint_rest) of
     (turn (by_first (Ok None) (joint_step spaced)) joint_rest (first-plain (Ok None) (joint_step spaced)) joint_rest-plain)
@@ -351,7 +223,7 @@ joint-plain spaced = same (λ ts. Ok (joint_at spaced ts)) (in_turn (by_first (O
     of [] = refl
     of (t ∷ ts) = chosen t ts (is_child_mark t.kind) (spaced && begins_compound t.kind)
 
-link-plain : Plain (λ ts. Ok (link_at ts))
+link-plain : Plain {T = Lexeme} {F = SelectKind} (λ ts. Ok (link_at ts))
 unfolding link_at
 link-plain = turn (λ ts. Ok (spaces_at ts)) (λ spaced ts. Ok (joint_at spaced ts)) spaces-plain joint-plain
 
