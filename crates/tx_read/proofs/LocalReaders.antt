@@ -146,4 +146,3 @@ give-plain {T = T} {F = F} a = same (give a) (by_first (Ok a) (λ t. Leave a)) o
     of : (ts : List T) → give {F = F} a ts ≡ by_first (Ok a) (λ t. Leave a) ts
     of [] = refl
     of (t ∷ ts) = refl
-
