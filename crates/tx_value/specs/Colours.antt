@@ -1,0 +1,106 @@
+-- Colours in values.
+use Rattle.std.specs.Prelude.{ℕ, ◌+◌, ◌-◌, ◌*◌, ◌≤◌, Bool, true, false, ◌&&◌, nat_eq, nat_le, List, [], ◌∷◌, length, take, drop, map, Option, Some, None, option_map, if◌then◌else◌}
+use Rattle.std.specs.List.{list_all}
+use Rattle.tx_geom.specs.Colour.{Tint}
+use Rattle.tx_geom.specs.declared.colours.Rgb.{Rgb}
+use Rattle.tx_lex.specs.Lexemes.{Lexeme, is_name_token, is_hash, is_variable, is_mark}
+use Rattle.tx_value.specs.Names.{entry, is_word}
+use Rattle.tx_value.specs.Numbers.{whole_of_token, percent_of}
+use Rattle.tx_value.specs.Theme.{theme_name_of}
+use Rattle.tx_value.specs.declared.theme.ThemeName.{ThemeName}
+use Rattle.tx_value.specs.declared.value.Hue.{Hue}
+use Rattle.tx_value.specs.declared.value.Hue.TheVariants.{Plain, Themed}
+use Rattle.tx_value.specs.declared.value.Ink.{Ink}
+use Rattle.tx_value.specs.declared.value.Ink.TheVariants.{Fixed, Theme}
+use Rattle.tx_value.specs.declared.tables.TheConstants.{COLOURS, RGB, TRANSPARENT}
+
+-- ---- one token
+
+abbrev pub is_between : ℕ → ℕ → ℕ → Bool
+is_between least most byte = nat_le least byte && nat_le byte most
+
+-- a digit to base 16, in small or large letters
+abbrev pub hex_digit : ℕ → Option ℕ
+hex_digit byte =
+    if is_between 48 57 byte then Some (byte - 48)
+    else if is_between 97 102 byte then Some (byte - 87)
+    else if is_between 65 70 byte then Some (byte - 55)
+    else None
+
+-- the channel that two digits write
+abbrev pub channel : Option ℕ → Option ℕ → Option ℕ
+channel (Some high) (Some low) = Some (high * 16 + low)
+channel (Some high) None = None
+channel None low = None
+
+abbrev pub hex_channel : ℕ → ℕ → Option ℕ
+hex_channel high low = channel (hex_digit high) (hex_digit low)
+
+-- a colour of three channels
+abbrev pub rgb_of : Option ℕ → Option ℕ → Option ℕ → Option Rgb
+rgb_of (Some r) (Some g) (Some b) = Some (record { r = r; g = g; b = b })
+rgb_of (Some r) (Some g) None = None
+rgb_of (Some r) None b = None
+rgb_of None g b = None
+
+-- what stands behind a `#`: three digits, each of which counts twice, or six
+abbrev pub hex_colour : List ℕ → Option Rgb
+hex_colour (r ∷ g ∷ b ∷ []) = rgb_of (hex_channel r r) (hex_channel g g) (hex_channel b b)
+hex_colour (r ∷ r' ∷ g ∷ g' ∷ b ∷ b' ∷ []) = rgb_of (hex_channel r r') (hex_channel g g') (hex_channel b b')
+hex_colour _ = None
+
+abbrev pub colours : List (List ℕ × Rgb)
+colours = map (λ row. (row.0.now, row.1)) COLOURS
+
+-- a colour of digits, a name, or a predefined variable
+abbrev pub hue_of : Lexeme → Option Hue
+hue_of t =
+    if is_hash t.kind then option_map (λ rgb. Plain rgb) (hex_colour (drop 1 t.bytes))
+    else if is_variable t.kind then option_map (λ name. Themed name) (theme_name_of (drop 1 t.bytes))
+    else if is_name_token t.kind then option_map (λ rgb. Plain rgb) (entry colours t.bytes)
+    else None
+
+-- ---- several tokens
+
+-- `(r, g, b)`
+abbrev pub channels : List Lexeme → Option Rgb
+channels (begin ∷ r ∷ comma ∷ g ∷ comma' ∷ b ∷ end ∷ []) =
+    if is_mark 40 begin.kind && (is_mark 44 comma.kind && (is_mark 44 comma'.kind && is_mark 41 end.kind))
+    then rgb_of (whole_of_token 0 255 r) (whole_of_token 0 255 g) (whole_of_token 0 255 b)
+    else None
+channels _ = None
+
+-- behind a colour: a percentage, or nothing, which is 100
+abbrev pub alpha_of : List Lexeme → Option ℕ
+alpha_of [] = Some 100
+alpha_of (t ∷ []) = percent_of t
+alpha_of (t ∷ t' ∷ ts) = None
+
+abbrev pub inked : Hue → ℕ → Ink
+inked (Plain rgb) alpha = Fixed (record { rgb = rgb; alpha = alpha })
+inked (Themed name) alpha = Theme name alpha
+
+abbrev pub ink_of : Option Hue → Option ℕ → Option Ink
+ink_of (Some hue) (Some alpha) = Some (inked hue alpha)
+ink_of (Some hue) None = None
+ink_of None alpha = None
+
+abbrev pub black : Rgb
+black = record { r = 0; g = 0; b = 0 }
+
+-- what covers nothing
+abbrev pub clear : Ink
+clear = Fixed (record { rgb = black; alpha = 0 })
+
+-- the same, without a percentage behind it
+abbrev pub transparent : List Lexeme → Option Ink
+transparent [] = Some clear
+transparent (t ∷ ts) = None
+
+-- a colour
+unfoldable pub colour : List Lexeme → Option Ink
+colour [] = None
+colour (t ∷ ts) =
+    if is_word TRANSPARENT.now t then transparent ts
+    else if is_word RGB.now t then ink_of (option_map (λ rgb. Plain rgb) (channels (take 7 ts))) (alpha_of (drop 7 ts))
+    else ink_of (hue_of t) (alpha_of ts)

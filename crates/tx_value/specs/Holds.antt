@@ -1,0 +1,181 @@
+-- What the table of properties gives each property.
+use Rattle.std.specs.Prelude.{ℕ, ℤ, ◌≡◌, ◌≤◌, ◌^◌, ◌<◌, unsigned_abs, neg_ℤ, pos, Bool, true, false, not, ◌&&◌, ◌||◌, nat_le, int_lt, IsTrue, List, [], ◌∷◌, length, Option, Some, None}
+use Rattle.std.specs.List.{list_all}
+use Rattle.tx_geom.specs.Colour.{Tint}
+use Rattle.tx_frac.specs.declared.scalars.Scalar.{Scalar}
+use Rattle.tx_frac.specs.declared.scalars.Unit.{Unit}
+use Rattle.tx_frac.specs.declared.scalars.Unit.TheVariants.{Fr, Auto}
+use Rattle.tx_tree.specs.Name.{is_name}
+use Rattle.tx_value.specs.Names.{among}
+use Rattle.tx_value.specs.declared.property.Property.{Property}
+use Rattle.tx_value.specs.declared.property.Property.TheVariants as property
+use Rattle.tx_value.specs.declared.value.Ink.{Ink}
+use Rattle.tx_value.specs.declared.value.Ink.TheVariants.{Fixed, Theme}
+use Rattle.tx_value.specs.declared.value.Value.{Value}
+use Rattle.tx_value.specs.declared.value.Value.TheVariants as value
+use Rattle.tx_value.specs.declared.value.Word.{Word}
+use Rattle.tx_value.specs.declared.value.Word.TheVariants.{Nothing}
+use Rattle.tx_value.specs.declared.tables.TheConstants.{DISPLAYS, VISIBILITIES, LAYOUTS, DOCKS, BOX_SIZINGS, OVERFLOWS, PLACES_ACROSS, PLACES_DOWN, NOTHINGS}
+
+-- ---- sorts of values
+
+-- one of some keywords
+abbrev pub is_word : List Word → Value → Bool
+is_word choices (value.Word w) = among choices w
+is_word choices _ = false
+
+-- not below 0
+abbrev pub is_positive : Scalar → Bool
+is_positive s = not (int_lt s.value.num (pos 0))
+
+abbrev pub is_auto : Unit → Bool
+is_auto Auto = true
+is_auto _ = false
+
+abbrev pub is_share : Unit → Bool
+is_share Fr = true
+is_share _ = false
+
+-- a size, `auto` or not
+abbrev pub is_size : Value → Bool
+is_size (value.Size s) = is_positive s
+is_size _ = false
+
+-- a size without `auto`
+abbrev pub is_track : Scalar → Bool
+is_track s = is_positive s && not (is_auto s.unit)
+
+-- `none`, or a size without `fr` and `auto`
+abbrev pub is_limit : Value → Bool
+is_limit (value.Word w) = among NOTHINGS w
+is_limit (value.Size s) = is_track s && not (is_share s.unit)
+is_limit _ = false
+
+-- from one number to another
+abbrev pub is_within : ℕ → ℕ → ℕ → Bool
+is_within least most n = nat_le least n && nat_le n most
+
+abbrev pub is_whole : ℕ → ℕ → Value → Bool
+is_whole least most (value.Whole n) = is_within least most n
+is_whole least most _ = false
+
+-- at most 100 percent
+abbrev pub is_ink : Ink → Bool
+is_ink (Fixed colour) = nat_le colour.alpha 100
+is_ink (Theme name alpha) = nat_le alpha 100
+
+abbrev pub is_optional_ink : Option Ink → Bool
+is_optional_ink None = true
+is_optional_ink (Some ink) = is_ink ink
+
+-- `none`, or a kind with or without a colour
+abbrev pub is_border : Value → Bool
+is_border (value.Word w) = among NOTHINGS w
+is_border (value.Border kind ink) = is_optional_ink ink
+is_border _ = false
+
+abbrev pub is_colour : Value → Bool
+is_colour (value.Ink ink) = is_ink ink
+is_colour _ = false
+
+abbrev pub is_text_style : Value → Bool
+is_text_style (value.Marks marks) = true
+is_text_style _ = false
+
+abbrev pub is_optional_rows : Option ℕ → Bool
+is_optional_rows None = true
+is_optional_rows (Some rows) = is_within 1 1000 rows
+
+abbrev pub is_grid_size : Value → Bool
+is_grid_size (value.GridSize columns rows) = is_within 1 100 columns && is_optional_rows rows
+is_grid_size _ = false
+
+-- 1 to 60 sizes without `auto`
+abbrev pub are_tracks : Value → Bool
+are_tracks (value.Sizes sizes) = is_within 1 60 (length sizes) && list_all is_track sizes
+are_tracks _ = false
+
+-- from -9,999 to 9,999
+abbrev pub is_offset_part : ℤ → Bool
+is_offset_part z = nat_le (unsigned_abs z) 9999
+
+abbrev pub is_offset : Value → Bool
+is_offset (value.Pair x y) = is_offset_part x && is_offset_part y
+is_offset _ = false
+
+-- the same, and not below 0
+abbrev pub is_gutter_part : ℤ → Bool
+is_gutter_part z = not (int_lt z (pos 0)) && is_offset_part z
+
+abbrev pub is_gutter : Value → Bool
+is_gutter (value.Pair v h) = is_gutter_part v && is_gutter_part h
+is_gutter _ = false
+
+-- 1 to 32 names
+abbrev pub are_layers : Value → Bool
+are_layers (value.Names names) = is_within 1 32 (length names) && list_all is_name names
+are_layers _ = false
+
+abbrev pub is_layer : Value → Bool
+is_layer (value.Layer name) = is_name name
+is_layer _ = false
+
+-- ---- the table of properties
+
+-- `initial` aside
+unfoldable pub is_given : Property → Value → Bool
+is_given property.Display v = is_word DISPLAYS v
+is_given property.Visibility v = is_word VISIBILITIES v
+is_given property.Layout v = is_word LAYOUTS v
+is_given property.Dock v = is_word DOCKS v
+is_given property.Width v = is_size v
+is_given property.Height v = is_size v
+is_given property.MinWidth v = is_limit v
+is_given property.MaxWidth v = is_limit v
+is_given property.MinHeight v = is_limit v
+is_given property.MaxHeight v = is_limit v
+is_given property.BoxSizing v = is_word BOX_SIZINGS v
+is_given property.MarginTop v = is_whole 0 9999 v
+is_given property.MarginRight v = is_whole 0 9999 v
+is_given property.MarginBottom v = is_whole 0 9999 v
+is_given property.MarginLeft v = is_whole 0 9999 v
+is_given property.PaddingTop v = is_whole 0 9999 v
+is_given property.PaddingRight v = is_whole 0 9999 v
+is_given property.PaddingBottom v = is_whole 0 9999 v
+is_given property.PaddingLeft v = is_whole 0 9999 v
+is_given property.BorderTop v = is_border v
+is_given property.BorderRight v = is_border v
+is_given property.BorderBottom v = is_border v
+is_given property.BorderLeft v = is_border v
+is_given property.Background v = is_colour v
+is_given property.Color v = is_colour v
+is_given property.TextStyle v = is_text_style v
+is_given property.GridSize v = is_grid_size v
+is_given property.GridColumns v = are_tracks v
+is_given property.GridRows v = are_tracks v
+is_given property.GridGutter v = is_gutter v
+is_given property.ColumnSpan v = is_whole 1 100 v
+is_given property.RowSpan v = is_whole 1 100 v
+is_given property.Layers v = are_layers v
+is_given property.Layer v = is_layer v
+is_given property.OverflowX v = is_word OVERFLOWS v
+is_given property.OverflowY v = is_word OVERFLOWS v
+is_given property.Offset v = is_offset v
+is_given property.AlignHorizontal v = is_word PLACES_ACROSS v
+is_given property.AlignVertical v = is_word PLACES_DOWN v
+is_given property.ContentAlignHorizontal v = is_word PLACES_ACROSS v
+is_given property.ContentAlignVertical v = is_word PLACES_DOWN v
+is_given property.TextAlign v = is_word PLACES_ACROSS v
+
+-- `initial`, or what the table gives
+abbrev pub may_hold : Property → Value → Bool
+may_hold p value.Initial = true
+may_hold p v = is_given p v
+
+abbrev pub HoldsOf : Property → Value → Type 0
+HoldsOf p v = IsTrue (may_hold p v)
+
+-- each of some pairs has such a value
+abbrev pub AllHold : List (Property × Value) → Type 0
+AllHold [] = Prim.Unit {0}
+AllHold (pair ∷ pairs) = HoldsOf pair.0 pair.1 × AllHold pairs

@@ -1,0 +1,9 @@
+pub mod Names
+pub mod Numbers
+pub mod Colours
+pub mod Theme
+pub mod Values
+pub mod Declarations
+pub mod Initial
+pub mod Holds
+pub mod Style

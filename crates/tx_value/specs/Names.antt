@@ -1,0 +1,74 @@
+-- Names and keywords, each found in its table.
+use Rattle.std.specs.Prelude.{ℕ, Bool, true, false, List, [], ◌∷◌, ◌++◌, Option, Some, None, bytes_eq, is_some, map, if◌then◌else◌}
+use Rattle.std.specs.List.{list_any}
+use Rattle.tx_lex.specs.Lexemes.{Lexeme, is_name_token}
+use denote.Enum.Bare.{sameb}
+use Rattle.tx_value.specs.contracts.value.Word.{the_type}
+use Rattle.tx_value.specs.declared.value.Word.{Word}
+use Rattle.tx_value.specs.declared.property.Named.{Named}
+use Rattle.tx_value.specs.declared.tables.TheConstants.{NAMES_OF_4, NAMES_OF_5, NAMES_OF_6, NAMES_OF_7, NAMES_OF_8, NAMES_OF_9, NAMES_OF_10, NAMES_OF_11, NAMES_OF_12, NAMES_OF_13, NAMES_OF_14, NAMES_OF_16, NAMES_OF_22, NAMES_OF_24, WORDS}
+
+-- what a table has at a name
+abbrev pub entry : {A : Type 0} → List (List ℕ × A) → List ℕ → Option A
+entry [] name = None
+entry (row ∷ rows) name = if bytes_eq row.0 name then Some row.1 else entry rows name
+
+-- the same for the bytes of a lexeme that is a name
+abbrev pub name_in : {A : Type 0} → List (List ℕ × A) → Lexeme → Option A
+name_in table t = if is_name_token t.kind then entry table t.bytes else None
+
+-- whether a lexeme is this name
+abbrev pub is_word : List ℕ → Lexeme → Bool
+is_word word t = if is_name_token t.kind then bytes_eq t.bytes word else false
+
+-- ---- keywords
+
+abbrev pub same_word : Word → Word → Bool
+same_word a b = sameb the_type a b
+
+-- whether a keyword is one of these
+abbrev pub among : List Word → Word → Bool
+among choices word = list_any (same_word word) choices
+
+abbrev pub if_among : List Word → Option Word → Option Word
+if_among choices None = None
+if_among choices (Some word) = if among choices word then Some word else None
+
+abbrev pub words : List (List ℕ × Word)
+words = map (λ row. (row.0.now, row.1)) WORDS
+
+-- a keyword, where it is one of these
+abbrev pub word_of : List Word → Lexeme → Option Word
+word_of choices t = if_among choices (name_in words t)
+
+abbrev pub is_one_of : List Word → Lexeme → Bool
+is_one_of choices t = is_some (word_of choices t)
+
+-- ---- names of declarations
+
+-- all of them, with what each stands for, with what each stands for
+unfoldable pub all_names : List (List ℕ × Named)
+all_names =
+    map (λ row. (row.0.now, row.1))
+        (NAMES_OF_4
+            ++ NAMES_OF_5
+            ++ NAMES_OF_6
+            ++ NAMES_OF_7
+            ++ NAMES_OF_8
+            ++ NAMES_OF_9
+            ++ NAMES_OF_10
+            ++ NAMES_OF_11
+            ++ NAMES_OF_12
+            ++ NAMES_OF_13
+            ++ NAMES_OF_14
+            ++ NAMES_OF_16
+            ++ NAMES_OF_22
+            ++ NAMES_OF_24)
+
+-- what a name of a declaration stands for
+abbrev pub meaning_of : List ℕ → Option Named
+meaning_of name = entry all_names name
+
+-- whether a name is that of a declaration
+abbrev pub is_known : List ℕ → Bool
+is_known name = is_some (meaning_of name)

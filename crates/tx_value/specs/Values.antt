@@ -1,0 +1,209 @@
+-- The values of each property, as the table of properties has them. Spaces and comments are left out before.
+use Rattle.std.specs.Prelude.{ℕ, ◌+◌, ℤ, pos, Bool, true, false, ◌&&◌, ◌||◌, nat_le, List, [], ◌∷◌, length, map, Option, Some, None, option_map, is_some, if◌then◌else◌}
+use Rattle.tx_frac.specs.declared.scalars.Scalar.{Scalar}
+use Rattle.tx_geom.specs.declared.choices.BorderKind.{BorderKind}
+use Rattle.tx_tree.specs.Name.{is_name}
+use Rattle.tx_lex.specs.Lexemes.{Lexeme, is_name_token}
+use Rattle.tx_value.specs.Names.{name_in, word_of, is_one_of}
+use Rattle.tx_value.specs.Numbers.{scalar_of, size_of, limit_of, whole_of_token, signed_of}
+use Rattle.tx_value.specs.Colours.{colour}
+use Rattle.tx_value.specs.declared.property.Property.{Property}
+use Rattle.tx_value.specs.declared.property.Property.TheVariants as property
+use Rattle.tx_value.specs.declared.value.Ink.{Ink}
+use Rattle.tx_value.specs.declared.value.Marks.{Marks}
+use Rattle.tx_value.specs.declared.value.Value.{Value}
+use Rattle.tx_value.specs.declared.value.Value.TheVariants as value
+use Rattle.tx_value.specs.declared.value.Word.{Word}
+use Rattle.tx_value.specs.declared.value.Word.TheVariants.{Nothing}
+use Rattle.tx_value.specs.declared.tables.TheConstants.{DISPLAYS, VISIBILITIES, LAYOUTS, DOCKS, BOX_SIZINGS, OVERFLOWS, PLACES_ACROSS, PLACES_DOWN, NOTHINGS, BORDERS, MARKS, NO_MARKS}
+
+-- ---- one token, or some of one sort
+
+-- the only one
+abbrev pub alone : {A : Type 0} → (Lexeme → Option A) → List Lexeme → Option A
+alone reader [] = None
+alone reader (t ∷ []) = reader t
+alone reader (t ∷ t' ∷ ts) = None
+
+abbrev pub joined : {A : Type 0} → Option A → Option (List A) → Option (List A)
+joined (Some a) (Some rest) = Some (a ∷ rest)
+joined (Some a) None = None
+joined None rest = None
+
+-- what each one gives, where all give something
+abbrev pub each : {A : Type 0} → (Lexeme → Option A) → List Lexeme → Option (List A)
+each reader [] = Some []
+each reader (t ∷ ts) = joined (reader t) (each reader ts)
+
+-- the same of one or more, up to a number
+abbrev pub some_of : {A : Type 0} → ℕ → (Lexeme → Option A) → List Lexeme → Option (List A)
+some_of most reader ts = if nat_le 1 (length ts) && nat_le (length ts) most then each reader ts else None
+
+-- ---- sorts of values
+
+-- one of some keywords
+abbrev pub word : List Word → List Lexeme → Option Value
+word choices ts = option_map (λ w. value.Word w) (alone (word_of choices) ts)
+
+-- a size
+abbrev pub size : List Lexeme → Option Value
+size ts = option_map (λ s. value.Size s) (alone size_of ts)
+
+-- `none`, or a size without `fr` and `auto`
+abbrev pub limit_in : Lexeme → Option Value
+limit_in t = if is_one_of NOTHINGS t then Some (value.Word Nothing) else option_map (λ s. value.Size s) (limit_of t)
+
+abbrev pub limit : List Lexeme → Option Value
+limit ts = alone limit_in ts
+
+-- a whole number from one number to another
+abbrev pub whole : ℕ → ℕ → List Lexeme → Option Value
+whole least most ts = option_map (λ n. value.Whole n) (alone (whole_of_token least most) ts)
+
+-- a kind, and its colour where there is one; `none` with or without a colour is no border
+abbrev pub bordered : Option (Option BorderKind) → Option (Option Ink) → Option Value
+bordered (Some (Some kind)) (Some ink) = Some (value.Border kind ink)
+bordered (Some None) (Some ink) = Some (value.Word Nothing)
+bordered (Some kind) None = None
+bordered None ink = None
+
+abbrev pub optional_colour : List Lexeme → Option (Option Ink)
+optional_colour [] = Some None
+optional_colour (t ∷ ts) = option_map (λ ink. Some ink) (colour (t ∷ ts))
+
+abbrev pub borders : List (List ℕ × Option BorderKind)
+borders = map (λ row. (row.0.now, row.1)) BORDERS
+
+unfoldable pub border : List Lexeme → Option Value
+border [] = None
+border (t ∷ ts) = bordered (name_in borders t) (optional_colour ts)
+
+-- a colour
+abbrev pub ink : List Lexeme → Option Value
+ink ts = option_map (λ i. value.Ink i) (colour ts)
+
+-- what has one of two marks or both
+abbrev pub either : Marks → Marks → Marks
+either a b =
+    record {
+      bold = a.bold || b.bold;
+      dim = a.dim || b.dim;
+      italic = a.italic || b.italic;
+      underline = a.underline || b.underline;
+      reverse = a.reverse || b.reverse;
+      strike = a.strike || b.strike;
+    }
+
+abbrev pub all_marks : List (List ℕ × Marks)
+all_marks = map (λ row. (row.0.now, row.1)) MARKS
+
+abbrev pub marked : Option Marks → Option Marks → Option Marks
+marked (Some a) (Some b) = Some (either a b)
+marked (Some a) None = None
+marked None b = None
+
+abbrev pub marks_of : List Lexeme → Option Marks
+marks_of [] = Some NO_MARKS
+marks_of (t ∷ ts) = marked (name_in all_marks t) (marks_of ts)
+
+abbrev pub is_nothing : List Lexeme → Bool
+is_nothing ts = is_some (alone (word_of NOTHINGS) ts)
+
+-- `none`, or one or more marks
+unfoldable pub text_style : List Lexeme → Option Value
+text_style [] = None
+text_style (t ∷ ts) = if is_nothing (t ∷ ts) then Some (value.Marks NO_MARKS) else option_map (λ m. value.Marks m) (marks_of (t ∷ ts))
+
+-- columns, and rows where they are given
+abbrev pub with_rows : Option ℕ → Option (Option ℕ) → Option Value
+with_rows (Some columns) (Some rows) = Some (value.GridSize columns rows)
+with_rows (Some columns) None = None
+with_rows None rows = None
+
+unfoldable pub grid_size : List Lexeme → Option Value
+grid_size [] = None
+grid_size (c ∷ []) = with_rows (whole_of_token 1 100 c) (Some None)
+grid_size (c ∷ r ∷ []) = with_rows (whole_of_token 1 100 c) (option_map (λ n. Some n) (whole_of_token 1 1000 r))
+grid_size (c ∷ r ∷ t ∷ ts) = None
+
+-- sizes without `auto`
+abbrev pub tracks : List Lexeme → Option Value
+tracks ts = option_map (λ sizes. value.Sizes sizes) (some_of 60 scalar_of ts)
+
+abbrev pub pair : Option ℤ → Option ℤ → Option Value
+pair (Some a) (Some b) = Some (value.Pair a b)
+pair (Some a) None = None
+pair None b = None
+
+abbrev pub cells : Lexeme → Option ℤ
+cells t = option_map (λ n. pos n) (whole_of_token 0 9999 t)
+
+-- one number for both, or vertical and horizontal
+unfoldable pub gutter : List Lexeme → Option Value
+gutter [] = None
+gutter (a ∷ []) = pair (cells a) (cells a)
+gutter (v ∷ h ∷ []) = pair (cells v) (cells h)
+gutter (v ∷ h ∷ t ∷ ts) = None
+
+-- across and down, each with an optional `-`
+unfoldable pub offset : List Lexeme → Option Value
+offset [] = None
+offset (x ∷ []) = None
+offset (x ∷ y ∷ []) = pair (signed_of 9999 x) (signed_of 9999 y)
+offset (x ∷ y ∷ t ∷ ts) = None
+
+-- a name of at most 64 bytes
+abbrev pub name_of : Lexeme → Option (List ℕ)
+name_of t = if is_name_token t.kind && is_name t.bytes then Some t.bytes else None
+
+abbrev pub layers : List Lexeme → Option Value
+layers ts = option_map (λ names. value.Names names) (some_of 32 name_of ts)
+
+abbrev pub layer : List Lexeme → Option Value
+layer ts = option_map (λ name. value.Layer name) (alone name_of ts)
+
+-- ---- the table of properties
+
+unfoldable pub value_of : Property → List Lexeme → Option Value
+value_of property.Display ts = word DISPLAYS ts
+value_of property.Visibility ts = word VISIBILITIES ts
+value_of property.Layout ts = word LAYOUTS ts
+value_of property.Dock ts = word DOCKS ts
+value_of property.Width ts = size ts
+value_of property.Height ts = size ts
+value_of property.MinWidth ts = limit ts
+value_of property.MaxWidth ts = limit ts
+value_of property.MinHeight ts = limit ts
+value_of property.MaxHeight ts = limit ts
+value_of property.BoxSizing ts = word BOX_SIZINGS ts
+value_of property.MarginTop ts = whole 0 9999 ts
+value_of property.MarginRight ts = whole 0 9999 ts
+value_of property.MarginBottom ts = whole 0 9999 ts
+value_of property.MarginLeft ts = whole 0 9999 ts
+value_of property.PaddingTop ts = whole 0 9999 ts
+value_of property.PaddingRight ts = whole 0 9999 ts
+value_of property.PaddingBottom ts = whole 0 9999 ts
+value_of property.PaddingLeft ts = whole 0 9999 ts
+value_of property.BorderTop ts = border ts
+value_of property.BorderRight ts = border ts
+value_of property.BorderBottom ts = border ts
+value_of property.BorderLeft ts = border ts
+value_of property.Background ts = ink ts
+value_of property.Color ts = ink ts
+value_of property.TextStyle ts = text_style ts
+value_of property.GridSize ts = grid_size ts
+value_of property.GridColumns ts = tracks ts
+value_of property.GridRows ts = tracks ts
+value_of property.GridGutter ts = gutter ts
+value_of property.ColumnSpan ts = whole 1 100 ts
+value_of property.RowSpan ts = whole 1 100 ts
+value_of property.Layers ts = layers ts
+value_of property.Layer ts = layer ts
+value_of property.OverflowX ts = word OVERFLOWS ts
+value_of property.OverflowY ts = word OVERFLOWS ts
+value_of property.Offset ts = offset ts
+value_of property.AlignHorizontal ts = word PLACES_ACROSS ts
+value_of property.AlignVertical ts = word PLACES_DOWN ts
+value_of property.ContentAlignHorizontal ts = word PLACES_ACROSS ts
+value_of property.ContentAlignVertical ts = word PLACES_DOWN ts
+value_of property.TextAlign ts = word PLACES_ACROSS ts

@@ -1,0 +1,24 @@
+//! The properties of TCSS, the stylesheets of Textual
+//! (<https://textual.textualize.io/guide/CSS/>): their names, their values and styles.
+//!
+//! [`values_of`] reads the values of a declaration, and a [`Style`] has one value for each property.
+#![tactic(auto)]
+
+mod declaration;
+mod fault;
+mod initials;
+mod names;
+mod property;
+mod style;
+mod tables;
+mod theme;
+mod value;
+
+pub use declaration::{read_value, values_of};
+pub use fault::ValueFault;
+pub use initials::initial;
+pub use names::knows;
+pub use property::Property;
+pub use style::Style;
+pub use theme::{ThemeName, theme_colour, theme_name_of};
+pub use value::{Ink, Marks, Sizes, Value, Word};

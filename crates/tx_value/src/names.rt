@@ -1,0 +1,103 @@
+//! Names and keywords, each found in its table.
+ghost use Rattle.std.specs.Prelude.{◌≡◌, map};
+ghost use Rattle.tx_lex.specs.Lexemes.{lexeme};
+ghost use Rattle.tx_value.specs.Names.{entry, name_in, is_word, same_word, among, word_of, is_one_of, meaning_of, is_known};
+
+use crate::property::Named;
+use crate::tables::*;
+use crate::value::Word;
+use tx_lex::{Token, token_bytes};
+
+/// What a table has at a name.
+pub fn entry<T: Copy>(table: &[(&[u8], T)], name: &[u8]) -> Option<T>
+    ensures { result ≡ entry (map (λ row. (row.0.now, row.1)) table.now) name.now }
+{
+    for row in table {
+        if row.0 == name {
+            return Some(row.1);
+        }
+    }
+    None
+}
+
+/// The same for a token that is a name.
+pub fn name_in<T: Copy>(table: &[(&[u8], T)], text: &[u8], token: Token) -> Option<T>
+    ensures { result ≡ name_in (map (λ row. (row.0.now, row.1)) table.now) (lexeme text.now token) }
+{
+    if token.kind.is_name() {
+        entry(table, token_bytes(text, token))
+    } else {
+        None
+    }
+}
+
+/// Whether a token is this name.
+pub fn is_word(word: &[u8], text: &[u8], token: Token) -> bool
+    ensures { result ≡ is_word word.now (lexeme text.now token) }
+{
+    if token.kind.is_name() {
+        token_bytes(text, token) == word
+    } else {
+        false
+    }
+}
+
+fn same_word(a: Word, b: Word) -> bool
+    ensures { result ≡ same_word a b }
+{
+    a == b
+}
+
+fn among(choices: &[Word], word: Word) -> bool
+    ensures { result ≡ among choices.now word }
+{
+    choices.iter().any(|choice| same_word(word, *choice))
+}
+
+/// The keyword of a token, where it is one of these.
+pub fn word_of(choices: &[Word], text: &[u8], token: Token) -> Option<Word>
+    ensures { result ≡ word_of choices.now (lexeme text.now token) }
+{
+    match name_in(&WORDS, text, token) {
+        Some(word) if among(choices, word) => Some(word),
+        _ => None,
+    }
+}
+
+/// Whether a token is one of these keywords.
+pub fn is_one_of(choices: &[Word], text: &[u8], token: Token) -> bool
+    ensures { result ≡ is_one_of choices.now (lexeme text.now token) }
+{
+    word_of(choices, text, token).is_some()
+}
+
+/// What the name of a declaration stands for. It is compared with names of its own length alone.
+pub fn meaning_of(name: &[u8]) -> Option<Named>
+    ensures { result ≡ meaning_of name.now }
+{
+    match name.len() {
+        4 => entry(&NAMES_OF_4, name),
+        5 => entry(&NAMES_OF_5, name),
+        6 => entry(&NAMES_OF_6, name),
+        7 => entry(&NAMES_OF_7, name),
+        8 => entry(&NAMES_OF_8, name),
+        9 => entry(&NAMES_OF_9, name),
+        10 => entry(&NAMES_OF_10, name),
+        11 => entry(&NAMES_OF_11, name),
+        12 => entry(&NAMES_OF_12, name),
+        13 => entry(&NAMES_OF_13, name),
+        14 => entry(&NAMES_OF_14, name),
+        16 => entry(&NAMES_OF_16, name),
+        22 => entry(&NAMES_OF_22, name),
+        24 => entry(&NAMES_OF_24, name),
+        _ => None,
+    }
+}
+
+/// Whether a declaration may have this name: that of a property, or one that stands for several, as
+/// `margin`.
+pub fn knows(name: &[u8]) -> bool
+    ensures { result ≡ is_known name.now }
+{
+    meaning_of(name).is_some()
+}

@@ -1,0 +1,420 @@
+//! The words of declarations and values, and what each stands for.
+
+use crate::property::{Named, Property};
+use crate::value::{Marks, Word};
+use tx_frac::Unit;
+use tx_geom::{BorderKind, Rgb};
+
+// ---- names of declarations, by their lengths
+
+pub const NAMES_OF_4: [(&[u8], Named); 1] = [(b"dock", Named::Longhand(Property::Dock))];
+
+pub const NAMES_OF_5: [(&[u8], Named); 4] = [
+    (b"width", Named::Longhand(Property::Width)),
+    (b"color", Named::Longhand(Property::Color)),
+    (b"layer", Named::Longhand(Property::Layer)),
+    (b"align", Named::Align),
+];
+
+pub const NAMES_OF_6: [(&[u8], Named); 6] = [
+    (b"layout", Named::Longhand(Property::Layout)),
+    (b"height", Named::Longhand(Property::Height)),
+    (b"margin", Named::Margin),
+    (b"border", Named::Border),
+    (b"layers", Named::Longhand(Property::Layers)),
+    (b"offset", Named::Longhand(Property::Offset)),
+];
+
+pub const NAMES_OF_7: [(&[u8], Named); 2] = [
+    (b"display", Named::Longhand(Property::Display)),
+    (b"padding", Named::Padding),
+];
+
+pub const NAMES_OF_8: [(&[u8], Named); 2] = [
+    (b"row-span", Named::Longhand(Property::RowSpan)),
+    (b"overflow", Named::Overflow),
+];
+
+pub const NAMES_OF_9: [(&[u8], Named); 4] = [
+    (b"min-width", Named::Longhand(Property::MinWidth)),
+    (b"max-width", Named::Longhand(Property::MaxWidth)),
+    (b"grid-size", Named::Longhand(Property::GridSize)),
+    (b"grid-rows", Named::Longhand(Property::GridRows)),
+];
+
+pub const NAMES_OF_10: [(&[u8], Named); 11] = [
+    (b"visibility", Named::Longhand(Property::Visibility)),
+    (b"min-height", Named::Longhand(Property::MinHeight)),
+    (b"max-height", Named::Longhand(Property::MaxHeight)),
+    (b"box-sizing", Named::Longhand(Property::BoxSizing)),
+    (b"margin-top", Named::Longhand(Property::MarginTop)),
+    (b"border-top", Named::Longhand(Property::BorderTop)),
+    (b"background", Named::Longhand(Property::Background)),
+    (b"text-style", Named::Longhand(Property::TextStyle)),
+    (b"overflow-x", Named::Longhand(Property::OverflowX)),
+    (b"overflow-y", Named::Longhand(Property::OverflowY)),
+    (b"text-align", Named::Longhand(Property::TextAlign)),
+];
+
+pub const NAMES_OF_11: [(&[u8], Named); 5] = [
+    (b"margin-left", Named::Longhand(Property::MarginLeft)),
+    (b"padding-top", Named::Longhand(Property::PaddingTop)),
+    (b"border-left", Named::Longhand(Property::BorderLeft)),
+    (b"grid-gutter", Named::Longhand(Property::GridGutter)),
+    (b"column-span", Named::Longhand(Property::ColumnSpan)),
+];
+
+pub const NAMES_OF_12: [(&[u8], Named); 4] = [
+    (b"margin-right", Named::Longhand(Property::MarginRight)),
+    (b"padding-left", Named::Longhand(Property::PaddingLeft)),
+    (b"border-right", Named::Longhand(Property::BorderRight)),
+    (b"grid-columns", Named::Longhand(Property::GridColumns)),
+];
+
+pub const NAMES_OF_13: [(&[u8], Named); 4] = [
+    (b"margin-bottom", Named::Longhand(Property::MarginBottom)),
+    (b"padding-right", Named::Longhand(Property::PaddingRight)),
+    (b"border-bottom", Named::Longhand(Property::BorderBottom)),
+    (b"content-align", Named::ContentAlign),
+];
+
+pub const NAMES_OF_14: [(&[u8], Named); 2] = [
+    (b"padding-bottom", Named::Longhand(Property::PaddingBottom)),
+    (b"align-vertical", Named::Longhand(Property::AlignVertical)),
+];
+
+pub const NAMES_OF_16: [(&[u8], Named); 1] = [(
+    b"align-horizontal",
+    Named::Longhand(Property::AlignHorizontal),
+)];
+
+pub const NAMES_OF_22: [(&[u8], Named); 1] = [(
+    b"content-align-vertical",
+    Named::Longhand(Property::ContentAlignVertical),
+)];
+
+pub const NAMES_OF_24: [(&[u8], Named); 1] = [(
+    b"content-align-horizontal",
+    Named::Longhand(Property::ContentAlignHorizontal),
+)];
+
+// ---- the properties of the names that stand for several
+
+pub const MARGINS: [Property; 4] = [
+    Property::MarginTop,
+    Property::MarginRight,
+    Property::MarginBottom,
+    Property::MarginLeft,
+];
+pub const PADDINGS: [Property; 4] = [
+    Property::PaddingTop,
+    Property::PaddingRight,
+    Property::PaddingBottom,
+    Property::PaddingLeft,
+];
+pub const BORDER_SIDES: [Property; 4] = [
+    Property::BorderTop,
+    Property::BorderRight,
+    Property::BorderBottom,
+    Property::BorderLeft,
+];
+pub const OVERFLOW_AXES: [Property; 2] = [Property::OverflowX, Property::OverflowY];
+pub const ALIGN_AXES: [Property; 2] = [Property::AlignHorizontal, Property::AlignVertical];
+pub const CONTENT_ALIGN_AXES: [Property; 2] = [
+    Property::ContentAlignHorizontal,
+    Property::ContentAlignVertical,
+];
+
+// ---- keywords
+
+pub const WORDS: [(&[u8], Word); 17] = [
+    (b"block", Word::Block),
+    (b"none", Word::Nothing),
+    (b"visible", Word::Visible),
+    (b"hidden", Word::Hidden),
+    (b"vertical", Word::Vertical),
+    (b"horizontal", Word::Horizontal),
+    (b"grid", Word::Grid),
+    (b"top", Word::Top),
+    (b"right", Word::Right),
+    (b"bottom", Word::Bottom),
+    (b"left", Word::Left),
+    (b"border-box", Word::BorderBox),
+    (b"content-box", Word::ContentBox),
+    (b"auto", Word::Auto),
+    (b"scroll", Word::Scroll),
+    (b"center", Word::Center),
+    (b"middle", Word::Middle),
+];
+
+// The keywords that the properties take.
+pub const DISPLAYS: [Word; 2] = [Word::Block, Word::Nothing];
+pub const VISIBILITIES: [Word; 2] = [Word::Visible, Word::Hidden];
+pub const LAYOUTS: [Word; 3] = [Word::Vertical, Word::Horizontal, Word::Grid];
+pub const DOCKS: [Word; 5] = [
+    Word::Top,
+    Word::Right,
+    Word::Bottom,
+    Word::Left,
+    Word::Nothing,
+];
+pub const BOX_SIZINGS: [Word; 2] = [Word::BorderBox, Word::ContentBox];
+pub const OVERFLOWS: [Word; 3] = [Word::Auto, Word::Hidden, Word::Scroll];
+pub const PLACES_ACROSS: [Word; 3] = [Word::Left, Word::Center, Word::Right];
+pub const PLACES_DOWN: [Word; 3] = [Word::Top, Word::Middle, Word::Bottom];
+pub const NOTHINGS: [Word; 1] = [Word::Nothing];
+pub const AUTOS: [Word; 1] = [Word::Auto];
+
+pub const INITIAL: &[u8] = b"initial";
+pub const RGB: &[u8] = b"rgb";
+pub const TRANSPARENT: &[u8] = b"transparent";
+
+// The kinds of a border, and that there is none.
+pub const BORDERS: [(&[u8], Option<BorderKind>); 7] = [
+    (b"none", None),
+    (b"blank", Some(BorderKind::Blank)),
+    (b"ascii", Some(BorderKind::Ascii)),
+    (b"solid", Some(BorderKind::Solid)),
+    (b"round", Some(BorderKind::Round)),
+    (b"double", Some(BorderKind::Double)),
+    (b"heavy", Some(BorderKind::Heavy)),
+];
+
+pub const NO_MARKS: Marks = Marks {
+    bold: false,
+    dim: false,
+    italic: false,
+    underline: false,
+    reverse: false,
+    strike: false,
+};
+
+pub const MARKS: [(&[u8], Marks); 6] = [
+    (
+        b"bold",
+        Marks {
+            bold: true,
+            dim: false,
+            italic: false,
+            underline: false,
+            reverse: false,
+            strike: false,
+        },
+    ),
+    (
+        b"dim",
+        Marks {
+            bold: false,
+            dim: true,
+            italic: false,
+            underline: false,
+            reverse: false,
+            strike: false,
+        },
+    ),
+    (
+        b"italic",
+        Marks {
+            bold: false,
+            dim: false,
+            italic: true,
+            underline: false,
+            reverse: false,
+            strike: false,
+        },
+    ),
+    (
+        b"underline",
+        Marks {
+            bold: false,
+            dim: false,
+            italic: false,
+            underline: true,
+            reverse: false,
+            strike: false,
+        },
+    ),
+    (
+        b"reverse",
+        Marks {
+            bold: false,
+            dim: false,
+            italic: false,
+            underline: false,
+            reverse: true,
+            strike: false,
+        },
+    ),
+    (
+        b"strike",
+        Marks {
+            bold: false,
+            dim: false,
+            italic: false,
+            underline: false,
+            reverse: false,
+            strike: true,
+        },
+    ),
+];
+
+// ---- units
+
+pub const UNITS: [(&[u8], Unit); 7] = [
+    (b"", Unit::Cells),
+    (b"%", Unit::Percent),
+    (b"w", Unit::W),
+    (b"h", Unit::H),
+    (b"vw", Unit::Vw),
+    (b"vh", Unit::Vh),
+    (b"fr", Unit::Fr),
+];
+
+// ---- colours
+
+pub const COLOURS: [(&[u8], Rgb); 18] = [
+    (
+        b"black",
+        Rgb {
+            r: 0x00,
+            g: 0x00,
+            b: 0x00,
+        },
+    ),
+    (
+        b"white",
+        Rgb {
+            r: 0xff,
+            g: 0xff,
+            b: 0xff,
+        },
+    ),
+    (
+        b"red",
+        Rgb {
+            r: 0xff,
+            g: 0x00,
+            b: 0x00,
+        },
+    ),
+    (
+        b"green",
+        Rgb {
+            r: 0x00,
+            g: 0x80,
+            b: 0x00,
+        },
+    ),
+    (
+        b"blue",
+        Rgb {
+            r: 0x00,
+            g: 0x00,
+            b: 0xff,
+        },
+    ),
+    (
+        b"yellow",
+        Rgb {
+            r: 0xff,
+            g: 0xff,
+            b: 0x00,
+        },
+    ),
+    (
+        b"cyan",
+        Rgb {
+            r: 0x00,
+            g: 0xff,
+            b: 0xff,
+        },
+    ),
+    (
+        b"magenta",
+        Rgb {
+            r: 0xff,
+            g: 0x00,
+            b: 0xff,
+        },
+    ),
+    (
+        b"gray",
+        Rgb {
+            r: 0x80,
+            g: 0x80,
+            b: 0x80,
+        },
+    ),
+    (
+        b"grey",
+        Rgb {
+            r: 0x80,
+            g: 0x80,
+            b: 0x80,
+        },
+    ),
+    (
+        b"silver",
+        Rgb {
+            r: 0xc0,
+            g: 0xc0,
+            b: 0xc0,
+        },
+    ),
+    (
+        b"maroon",
+        Rgb {
+            r: 0x80,
+            g: 0x00,
+            b: 0x00,
+        },
+    ),
+    (
+        b"navy",
+        Rgb {
+            r: 0x00,
+            g: 0x00,
+            b: 0x80,
+        },
+    ),
+    (
+        b"teal",
+        Rgb {
+            r: 0x00,
+            g: 0x80,
+            b: 0x80,
+        },
+    ),
+    (
+        b"olive",
+        Rgb {
+            r: 0x80,
+            g: 0x80,
+            b: 0x00,
+        },
+    ),
+    (
+        b"purple",
+        Rgb {
+            r: 0x80,
+            g: 0x00,
+            b: 0x80,
+        },
+    ),
+    (
+        b"lime",
+        Rgb {
+            r: 0x00,
+            g: 0xff,
+            b: 0x00,
+        },
+    ),
+    (
+        b"orange",
+        Rgb {
+            r: 0xff,
+            g: 0xa5,
+            b: 0x00,
+        },
+    ),
+];
