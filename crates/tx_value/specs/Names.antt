@@ -1,17 +1,22 @@
 -- Names and keywords, each found in its table.
 use Rattle.std.specs.Prelude.{ℕ, Bool, true, false, List, [], ◌∷◌, ◌++◌, Option, Some, None, bytes_eq, is_some, map, if◌then◌else◌}
-use Rattle.std.specs.List.{list_any}
+use Rattle.std.specs.List.{list_any, flat_map}
 use Rattle.tx_lex.specs.Lexemes.{Lexeme, is_name_token}
 use denote.Enum.Bare.{sameb}
 use Rattle.tx_value.specs.contracts.value.Word.{the_type}
 use Rattle.tx_value.specs.declared.value.Word.{Word}
 use Rattle.tx_value.specs.declared.property.Named.{Named}
-use Rattle.tx_value.specs.declared.tables.TheConstants.{NAMES_OF_4, NAMES_OF_5, NAMES_OF_6, NAMES_OF_7, NAMES_OF_8, NAMES_OF_9, NAMES_OF_10, NAMES_OF_11, NAMES_OF_12, NAMES_OF_13, NAMES_OF_14, NAMES_OF_16, NAMES_OF_22, NAMES_OF_24, WORDS}
+use Rattle.tx_value.specs.declared.tables.TheConstants.{NAMES, WORDS}
 
 -- what a table has at a name
 abbrev pub entry : {A : Type 0} → List (List ℕ × A) → List ℕ → Option A
 entry [] name = None
 entry (row ∷ rows) name = if bytes_eq row.0 name then Some row.1 else entry rows name
+
+-- the same in a table that may not be there
+abbrev pub entry_in : {A : Type 0} → Option (List (List ℕ × A)) → List ℕ → Option A
+entry_in None name = None
+entry_in (Some table) name = entry table name
 
 -- the same for the bytes of a lexeme that is a name
 abbrev pub name_in : {A : Type 0} → List (List ℕ × A) → Lexeme → Option A
@@ -47,23 +52,11 @@ is_one_of choices t = is_some (word_of choices t)
 -- ---- names of declarations
 
 -- all of them, with what each stands for, with what each stands for
+abbrev pub tables : List (List (List ℕ × Named))
+tables = map (λ table. map (λ row. (row.0.now, row.1)) table.now) NAMES
+
 unfoldable pub all_names : List (List ℕ × Named)
-all_names =
-    map (λ row. (row.0.now, row.1))
-        (NAMES_OF_4
-            ++ NAMES_OF_5
-            ++ NAMES_OF_6
-            ++ NAMES_OF_7
-            ++ NAMES_OF_8
-            ++ NAMES_OF_9
-            ++ NAMES_OF_10
-            ++ NAMES_OF_11
-            ++ NAMES_OF_12
-            ++ NAMES_OF_13
-            ++ NAMES_OF_14
-            ++ NAMES_OF_16
-            ++ NAMES_OF_22
-            ++ NAMES_OF_24)
+all_names = flat_map (λ table. table) tables
 
 -- what a name of a declaration stands for
 abbrev pub meaning_of : List ℕ → Option Named

@@ -105,4 +105,4 @@ is_percent_sign bytes = bytes_eq bytes (37 ∷ [])
 -- a whole number from 0 to 100 with `%`
 abbrev pub percent_of : Lexeme → Option ℕ
 percent_of t =
-    if is_number t.kind && is_percent_sign (behind_digits t.bytes) then short_number 100 (digits t.bytes) else None
+    if is_number t.kind then (if is_percent_sign (behind_digits t.bytes) then short_number 100 (digits t.bytes) else None) else None

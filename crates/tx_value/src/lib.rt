@@ -8,6 +8,7 @@ mod declaration;
 mod fault;
 mod initials;
 mod names;
+mod numbers;
 mod property;
 mod style;
 mod tables;

@@ -1,10 +1,10 @@
 //! Names and keywords, each found in its table.
-ghost use Rattle.std.specs.Prelude.{◌≡◌, map};
+ghost use Rattle.std.specs.Prelude.{◌≡◌, length, map, slice_get};
 ghost use Rattle.tx_lex.specs.Lexemes.{lexeme};
-ghost use Rattle.tx_value.specs.Names.{entry, name_in, is_word, same_word, among, word_of, is_one_of, meaning_of, is_known};
+ghost use Rattle.tx_value.specs.Names.{entry, entry_in, name_in, is_word, same_word, among, word_of, is_one_of, meaning_of, is_known};
 
 use crate::property::Named;
-use crate::tables::*;
+use crate::tables::{NAMES, WORDS};
 use crate::value::Word;
 use tx_lex::{Token, token_bytes};
 
@@ -71,27 +71,22 @@ pub fn is_one_of(choices: &[Word], text: &[u8], token: Token) -> bool
     word_of(choices, text, token).is_some()
 }
 
+/// What the table of the names that are as long as this one has at it.
+fn entry_by_length(tables: &[&[(&[u8], Named)]], name: &[u8]) -> Option<Named>
+    ensures { result ≡ entry_in (slice_get (map (λ table. map (λ row. (row.0.now, row.1)) table.now) tables.now) (length name.now)) name.now }
+{
+    match tables.get(name.len()) {
+        Some(table) => entry(table, name),
+        None => None,
+    }
+}
+
 /// What the name of a declaration stands for. It is compared with names of its own length alone.
+#[tactic(auto, using(crate::proofs::NameTables::named))]
 pub fn meaning_of(name: &[u8]) -> Option<Named>
     ensures { result ≡ meaning_of name.now }
 {
-    match name.len() {
-        4 => entry(&NAMES_OF_4, name),
-        5 => entry(&NAMES_OF_5, name),
-        6 => entry(&NAMES_OF_6, name),
-        7 => entry(&NAMES_OF_7, name),
-        8 => entry(&NAMES_OF_8, name),
-        9 => entry(&NAMES_OF_9, name),
-        10 => entry(&NAMES_OF_10, name),
-        11 => entry(&NAMES_OF_11, name),
-        12 => entry(&NAMES_OF_12, name),
-        13 => entry(&NAMES_OF_13, name),
-        14 => entry(&NAMES_OF_14, name),
-        16 => entry(&NAMES_OF_16, name),
-        22 => entry(&NAMES_OF_22, name),
-        24 => entry(&NAMES_OF_24, name),
-        _ => None,
-    }
+    entry_by_length(&NAMES, name)
 }
 
 /// Whether a declaration may have this name: that of a property, or one that stands for several, as

@@ -1,5 +1,6 @@
 //! Styles.
-ghost use Rattle.std.specs.Prelude.{◌≡◌, ◌<◌, IfOk};
+ghost use Rattle.std.specs.Prelude.{◌≡◌, ◌<◌, IfOk, map};
+ghost use Rattle.tx_value.specs.Initial.{initial};
 ghost use Rattle.tx_value.specs.Style.{number, style_value, with_value, initial_style};
 ghost use Rattle.tx_value.specs.declared.property.Property.{Property};
 
@@ -17,7 +18,8 @@ pub struct Style {
 }
 
 impl Model for Style {
-    ghost use Rattle.tx_value.specs.Style.{Values, IsStyle};
+    ghost use Rattle.tx_value.specs.Initial.{initial};
+ghost use Rattle.tx_value.specs.Style.{Values, IsStyle};
 
     ghost Value = { Values };
 
@@ -31,7 +33,7 @@ impl Style {
     pub fn initial(alloc: Global) -> Result<Style, NoMemory>
         ensures { IfOk result (λ s. s ≡ initial_style) }
     {
-        let values = initial_values(alloc)?;
+        let values = initial_values(alloc, &EVERY_PROPERTY)?;
         Ok(Style { values })
     }
 
@@ -69,12 +71,12 @@ fn number(property: Property) -> usize
     property as usize
 }
 
-/// The initial values, one for each property.
-fn initial_values(alloc: Global) -> Result<Vec<Value>, NoMemory>
-    ensures { IfOk result (λ values. values.items ≡ initial_style) }
+/// The initial values of some properties.
+fn initial_values(alloc: Global, properties: &[Property]) -> Result<Vec<Value>, NoMemory>
+    ensures { IfOk result (λ values. values.items ≡ map initial properties.now) }
 {
-    let mut values = Vec::with_capacity(alloc, EVERY_PROPERTY.len())?;
-    for property in &EVERY_PROPERTY {
+    let mut values = Vec::with_capacity(alloc, properties.len())?;
+    for property in properties {
         values.push(initial(alloc, *property))?;
     }
     Ok(values)

@@ -5,98 +5,96 @@ use crate::value::{Marks, Word};
 use tx_frac::Unit;
 use tx_geom::{BorderKind, Rgb};
 
-// ---- names of declarations, by their lengths
-
-pub const NAMES_OF_4: [(&[u8], Named); 1] = [(b"dock", Named::Longhand(Property::Dock))];
-
-pub const NAMES_OF_5: [(&[u8], Named); 4] = [
-    (b"width", Named::Longhand(Property::Width)),
-    (b"color", Named::Longhand(Property::Color)),
-    (b"layer", Named::Longhand(Property::Layer)),
-    (b"align", Named::Align),
+// The names of declarations: at each place those of that many bytes.
+pub const NAMES: [&[(&[u8], Named)]; 25] = [
+    &[],
+    &[],
+    &[],
+    &[],
+    &[
+        (b"dock", Named::Longhand(Property::Dock)),
+    ],
+    &[
+        (b"width", Named::Longhand(Property::Width)),
+        (b"color", Named::Longhand(Property::Color)),
+        (b"layer", Named::Longhand(Property::Layer)),
+        (b"align", Named::Align),
+    ],
+    &[
+        (b"layout", Named::Longhand(Property::Layout)),
+        (b"height", Named::Longhand(Property::Height)),
+        (b"margin", Named::Margin),
+        (b"border", Named::Border),
+        (b"layers", Named::Longhand(Property::Layers)),
+        (b"offset", Named::Longhand(Property::Offset)),
+    ],
+    &[
+        (b"display", Named::Longhand(Property::Display)),
+        (b"padding", Named::Padding),
+    ],
+    &[
+        (b"row-span", Named::Longhand(Property::RowSpan)),
+        (b"overflow", Named::Overflow),
+    ],
+    &[
+        (b"min-width", Named::Longhand(Property::MinWidth)),
+        (b"max-width", Named::Longhand(Property::MaxWidth)),
+        (b"grid-size", Named::Longhand(Property::GridSize)),
+        (b"grid-rows", Named::Longhand(Property::GridRows)),
+    ],
+    &[
+        (b"visibility", Named::Longhand(Property::Visibility)),
+        (b"min-height", Named::Longhand(Property::MinHeight)),
+        (b"max-height", Named::Longhand(Property::MaxHeight)),
+        (b"box-sizing", Named::Longhand(Property::BoxSizing)),
+        (b"margin-top", Named::Longhand(Property::MarginTop)),
+        (b"border-top", Named::Longhand(Property::BorderTop)),
+        (b"background", Named::Longhand(Property::Background)),
+        (b"text-style", Named::Longhand(Property::TextStyle)),
+        (b"overflow-x", Named::Longhand(Property::OverflowX)),
+        (b"overflow-y", Named::Longhand(Property::OverflowY)),
+        (b"text-align", Named::Longhand(Property::TextAlign)),
+    ],
+    &[
+        (b"margin-left", Named::Longhand(Property::MarginLeft)),
+        (b"padding-top", Named::Longhand(Property::PaddingTop)),
+        (b"border-left", Named::Longhand(Property::BorderLeft)),
+        (b"grid-gutter", Named::Longhand(Property::GridGutter)),
+        (b"column-span", Named::Longhand(Property::ColumnSpan)),
+    ],
+    &[
+        (b"margin-right", Named::Longhand(Property::MarginRight)),
+        (b"padding-left", Named::Longhand(Property::PaddingLeft)),
+        (b"border-right", Named::Longhand(Property::BorderRight)),
+        (b"grid-columns", Named::Longhand(Property::GridColumns)),
+    ],
+    &[
+        (b"margin-bottom", Named::Longhand(Property::MarginBottom)),
+        (b"padding-right", Named::Longhand(Property::PaddingRight)),
+        (b"border-bottom", Named::Longhand(Property::BorderBottom)),
+        (b"content-align", Named::ContentAlign),
+    ],
+    &[
+        (b"padding-bottom", Named::Longhand(Property::PaddingBottom)),
+        (b"align-vertical", Named::Longhand(Property::AlignVertical)),
+    ],
+    &[],
+    &[
+        (b"align-horizontal", Named::Longhand(Property::AlignHorizontal)),
+    ],
+    &[],
+    &[],
+    &[],
+    &[],
+    &[],
+    &[
+        (b"content-align-vertical", Named::Longhand(Property::ContentAlignVertical)),
+    ],
+    &[],
+    &[
+        (b"content-align-horizontal", Named::Longhand(Property::ContentAlignHorizontal)),
+    ],
 ];
-
-pub const NAMES_OF_6: [(&[u8], Named); 6] = [
-    (b"layout", Named::Longhand(Property::Layout)),
-    (b"height", Named::Longhand(Property::Height)),
-    (b"margin", Named::Margin),
-    (b"border", Named::Border),
-    (b"layers", Named::Longhand(Property::Layers)),
-    (b"offset", Named::Longhand(Property::Offset)),
-];
-
-pub const NAMES_OF_7: [(&[u8], Named); 2] = [
-    (b"display", Named::Longhand(Property::Display)),
-    (b"padding", Named::Padding),
-];
-
-pub const NAMES_OF_8: [(&[u8], Named); 2] = [
-    (b"row-span", Named::Longhand(Property::RowSpan)),
-    (b"overflow", Named::Overflow),
-];
-
-pub const NAMES_OF_9: [(&[u8], Named); 4] = [
-    (b"min-width", Named::Longhand(Property::MinWidth)),
-    (b"max-width", Named::Longhand(Property::MaxWidth)),
-    (b"grid-size", Named::Longhand(Property::GridSize)),
-    (b"grid-rows", Named::Longhand(Property::GridRows)),
-];
-
-pub const NAMES_OF_10: [(&[u8], Named); 11] = [
-    (b"visibility", Named::Longhand(Property::Visibility)),
-    (b"min-height", Named::Longhand(Property::MinHeight)),
-    (b"max-height", Named::Longhand(Property::MaxHeight)),
-    (b"box-sizing", Named::Longhand(Property::BoxSizing)),
-    (b"margin-top", Named::Longhand(Property::MarginTop)),
-    (b"border-top", Named::Longhand(Property::BorderTop)),
-    (b"background", Named::Longhand(Property::Background)),
-    (b"text-style", Named::Longhand(Property::TextStyle)),
-    (b"overflow-x", Named::Longhand(Property::OverflowX)),
-    (b"overflow-y", Named::Longhand(Property::OverflowY)),
-    (b"text-align", Named::Longhand(Property::TextAlign)),
-];
-
-pub const NAMES_OF_11: [(&[u8], Named); 5] = [
-    (b"margin-left", Named::Longhand(Property::MarginLeft)),
-    (b"padding-top", Named::Longhand(Property::PaddingTop)),
-    (b"border-left", Named::Longhand(Property::BorderLeft)),
-    (b"grid-gutter", Named::Longhand(Property::GridGutter)),
-    (b"column-span", Named::Longhand(Property::ColumnSpan)),
-];
-
-pub const NAMES_OF_12: [(&[u8], Named); 4] = [
-    (b"margin-right", Named::Longhand(Property::MarginRight)),
-    (b"padding-left", Named::Longhand(Property::PaddingLeft)),
-    (b"border-right", Named::Longhand(Property::BorderRight)),
-    (b"grid-columns", Named::Longhand(Property::GridColumns)),
-];
-
-pub const NAMES_OF_13: [(&[u8], Named); 4] = [
-    (b"margin-bottom", Named::Longhand(Property::MarginBottom)),
-    (b"padding-right", Named::Longhand(Property::PaddingRight)),
-    (b"border-bottom", Named::Longhand(Property::BorderBottom)),
-    (b"content-align", Named::ContentAlign),
-];
-
-pub const NAMES_OF_14: [(&[u8], Named); 2] = [
-    (b"padding-bottom", Named::Longhand(Property::PaddingBottom)),
-    (b"align-vertical", Named::Longhand(Property::AlignVertical)),
-];
-
-pub const NAMES_OF_16: [(&[u8], Named); 1] = [(
-    b"align-horizontal",
-    Named::Longhand(Property::AlignHorizontal),
-)];
-
-pub const NAMES_OF_22: [(&[u8], Named); 1] = [(
-    b"content-align-vertical",
-    Named::Longhand(Property::ContentAlignVertical),
-)];
-
-pub const NAMES_OF_24: [(&[u8], Named); 1] = [(
-    b"content-align-horizontal",
-    Named::Longhand(Property::ContentAlignHorizontal),
-)];
 
 // ---- the properties of the names that stand for several
 
