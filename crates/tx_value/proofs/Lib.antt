@@ -1,2 +1,5 @@
 pub mod NameTables
 pub mod Numbered
+pub mod DigitLemmas
+pub mod ColourLemmas
+pub mod EachLemmas

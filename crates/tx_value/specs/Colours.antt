@@ -3,6 +3,7 @@ use Rattle.std.specs.Prelude.{ℕ, ◌+◌, ◌-◌, ◌*◌, ◌≤◌, Bool, t
 use Rattle.std.specs.List.{list_all}
 use Rattle.tx_geom.specs.Colour.{Tint}
 use Rattle.tx_geom.specs.declared.colours.Rgb.{Rgb}
+use Rattle.tx_lex.specs.declared.token.TokenKind.{TokenKind}
 use Rattle.tx_lex.specs.Lexemes.{Lexeme, is_name_token, is_hash, is_variable, is_mark}
 use Rattle.tx_value.specs.Names.{entry, is_word}
 use Rattle.tx_value.specs.Numbers.{whole_of_token, percent_of}
@@ -49,23 +50,27 @@ hex_colour (r ∷ g ∷ b ∷ []) = rgb_of (hex_channel r r) (hex_channel g g) (
 hex_colour (r ∷ r' ∷ g ∷ g' ∷ b ∷ b' ∷ []) = rgb_of (hex_channel r r') (hex_channel g g') (hex_channel b b')
 hex_colour _ = None
 
-abbrev pub colours : List (List ℕ × Rgb)
-colours = map (λ row. (row.0.now, row.1)) COLOURS
+unfoldable pub colour_named : List ℕ → Option Rgb
+colour_named name = entry (map (λ row. (row.0.now, row.1)) COLOURS) name
 
 -- a colour of digits, a name, or a predefined variable
 abbrev pub hue_of : Lexeme → Option Hue
 hue_of t =
     if is_hash t.kind then option_map (λ rgb. Plain rgb) (hex_colour (drop 1 t.bytes))
     else if is_variable t.kind then option_map (λ name. Themed name) (theme_name_of (drop 1 t.bytes))
-    else if is_name_token t.kind then option_map (λ rgb. Plain rgb) (entry colours t.bytes)
+    else if is_name_token t.kind then option_map (λ rgb. Plain rgb) (colour_named t.bytes)
     else None
 
 -- ---- several tokens
 
+-- the marks of `(r, g, b)`
+abbrev pub are_marks : TokenKind → TokenKind → TokenKind → TokenKind → Bool
+are_marks first second third last = is_mark 40 first && (is_mark 44 second && (is_mark 44 third && is_mark 41 last))
+
 -- `(r, g, b)`
 abbrev pub channels : List Lexeme → Option Rgb
-channels (begin ∷ r ∷ comma ∷ g ∷ comma' ∷ b ∷ end ∷ []) =
-    if is_mark 40 begin.kind && (is_mark 44 comma.kind && (is_mark 44 comma'.kind && is_mark 41 end.kind))
+channels (first ∷ r ∷ second ∷ g ∷ third ∷ b ∷ last ∷ []) =
+    if are_marks first.kind second.kind third.kind last.kind
     then rgb_of (whole_of_token 0 255 r) (whole_of_token 0 255 g) (whole_of_token 0 255 b)
     else None
 channels _ = None
@@ -97,10 +102,14 @@ abbrev pub transparent : List Lexeme → Option Ink
 transparent [] = Some clear
 transparent (t ∷ ts) = None
 
+-- what stands behind `rgb`
+abbrev pub rgb_colour : List Lexeme → Option Ink
+rgb_colour ts = ink_of (option_map (λ rgb. Plain rgb) (channels (take 7 ts))) (alpha_of (drop 7 ts))
+
 -- a colour
 unfoldable pub colour : List Lexeme → Option Ink
 colour [] = None
 colour (t ∷ ts) =
     if is_word TRANSPARENT.now t then transparent ts
-    else if is_word RGB.now t then ink_of (option_map (λ rgb. Plain rgb) (channels (take 7 ts))) (alpha_of (drop 7 ts))
+    else if is_word RGB.now t then rgb_colour ts
     else ink_of (hue_of t) (alpha_of ts)

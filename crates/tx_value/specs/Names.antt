@@ -18,9 +18,9 @@ abbrev pub entry_in : {A : Type 0} → Option (List (List ℕ × A)) → List �
 entry_in None name = None
 entry_in (Some table) name = entry table name
 
--- the same for the bytes of a lexeme that is a name
-abbrev pub name_in : {A : Type 0} → List (List ℕ × A) → Lexeme → Option A
-name_in table t = if is_name_token t.kind then entry table t.bytes else None
+-- what a lexeme that is a name stands for
+abbrev pub name_in : {A : Type 0} → (List ℕ → Option A) → Lexeme → Option A
+name_in meaning t = if is_name_token t.kind then meaning t.bytes else None
 
 -- whether a lexeme is this name
 abbrev pub is_word : List ℕ → Lexeme → Bool
@@ -39,12 +39,12 @@ abbrev pub if_among : List Word → Option Word → Option Word
 if_among choices None = None
 if_among choices (Some word) = if among choices word then Some word else None
 
-abbrev pub words : List (List ℕ × Word)
-words = map (λ row. (row.0.now, row.1)) WORDS
+unfoldable pub keyword : List ℕ → Option Word
+keyword name = entry (map (λ row. (row.0.now, row.1)) WORDS) name
 
 -- a keyword, where it is one of these
 abbrev pub word_of : List Word → Lexeme → Option Word
-word_of choices t = if_among choices (name_in words t)
+word_of choices t = if_among choices (name_in keyword t)
 
 abbrev pub is_one_of : List Word → Lexeme → Bool
 is_one_of choices t = is_some (word_of choices t)

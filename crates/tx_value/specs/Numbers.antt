@@ -36,25 +36,25 @@ abbrev pub numeral_of : List ℕ → Numeral
 numeral_of bytes = with_whole (digits bytes) (behind_digits bytes)
 
 -- a digit or more, and no more than a token may have
-abbrev pub has_digits : Numeral → Bool
-has_digits n = nat_lt 0 (length n.whole + length n.decimals) && (nat_le (length n.whole) 9 && nat_le (length n.decimals) 18)
+abbrev pub has_digits : List ℕ → List ℕ → Bool
+has_digits whole decimals = nat_lt 0 (length whole + length decimals) && (nat_le (length whole) 9 && nat_le (length decimals) 18)
 
 -- the number that the digits write
-abbrev pub amount : Numeral → Ratio
-amount n = lowest (pos (value n.whole * 10 ^ length n.decimals + value n.decimals)) (10 ^ length n.decimals)
+abbrev pub amount : List ℕ → List ℕ → Ratio
+amount whole decimals = lowest (pos (value whole * 10 ^ length decimals + value decimals)) (10 ^ length decimals)
 
 -- ---- sizes
 
-abbrev pub units : List (List ℕ × Unit)
-units = map (λ row. (row.0.now, row.1)) UNITS
+unfoldable pub unit_of : List ℕ → Option Unit
+unit_of name = entry (map (λ row. (row.0.now, row.1)) UNITS) name
 
 abbrev pub sized : Numeral → Option Unit → Option Scalar
 sized n None = None
-sized n (Some unit) = if has_digits n then Some (record { value = amount n; unit = unit }) else None
+sized n (Some unit) = if has_digits n.whole n.decimals then Some (record { value = amount n.whole n.decimals; unit = unit }) else None
 
 -- a number without a sign, with one of the units or none
 unfoldable pub scalar_of : Lexeme → Option Scalar
-scalar_of t = if is_number t.kind then sized (numeral_of t.bytes) (entry units (numeral_of t.bytes).unit) else None
+scalar_of t = if is_number t.kind then sized (numeral_of t.bytes) (unit_of (numeral_of t.bytes).unit) else None
 
 abbrev pub auto : Scalar
 auto = record { value = whole_of (pos 0); unit = Auto }

@@ -8,11 +8,8 @@ use Rattle.tx_value.specs.declared.theme.ThemeName.TheVariants.{Background, Surf
 use Rattle.tx_value.specs.declared.theme.TheConstants.{THEME_NAMES, BACKGROUND, SURFACE, PANEL, PRIMARY, SECONDARY, FOREGROUND, TEXT, ERROR, SUCCESS, WARNING}
 
 -- the variable of a name without its `$`
-abbrev pub theme_names : List (List ℕ × ThemeName)
-theme_names = map (λ row. (row.0.now, row.1)) THEME_NAMES
-
-abbrev pub theme_name_of : List ℕ → Option ThemeName
-theme_name_of name = entry theme_names name
+unfoldable pub theme_name_of : List ℕ → Option ThemeName
+theme_name_of name = entry (map (λ row. (row.0.now, row.1)) THEME_NAMES) name
 
 -- what it is in the dark and in the light theme
 abbrev pub tones_of : ThemeName → Tones

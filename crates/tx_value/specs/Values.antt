@@ -1,10 +1,13 @@
 -- The values of each property, as the table of properties has them. Spaces and comments are left out before.
-use Rattle.std.specs.Prelude.{ℕ, ◌+◌, ℤ, pos, Bool, true, false, ◌&&◌, ◌||◌, nat_le, List, [], ◌∷◌, length, map, Option, Some, None, option_map, is_some, if◌then◌else◌}
+use Rattle.std.specs.Prelude.{◌≡◌, ℕ, ◌+◌, ℤ, pos, Bool, true, false, ◌&&◌, ◌||◌, nat_le, List, [], ◌∷◌, length, map, Option, Some, None, option_map, is_some, Result, Ok, Err, Vec, if◌then◌else◌}
+use Rattle.std.specs.declared.alloc.Global.{Global}
+use Rattle.tx_value.specs.declared.fault.ValueFault.{ValueFault}
+use Rattle.tx_value.specs.declared.fault.ValueFault.TheVariants.{UnknownProperty, BadValue, NoMemory}
 use Rattle.tx_frac.specs.declared.scalars.Scalar.{Scalar}
 use Rattle.tx_geom.specs.declared.choices.BorderKind.{BorderKind}
 use Rattle.tx_tree.specs.Name.{is_name}
 use Rattle.tx_lex.specs.Lexemes.{Lexeme, is_name_token}
-use Rattle.tx_value.specs.Names.{name_in, word_of, is_one_of}
+use Rattle.tx_value.specs.Names.{entry, name_in, word_of, is_one_of}
 use Rattle.tx_value.specs.Numbers.{scalar_of, size_of, limit_of, whole_of_token, signed_of}
 use Rattle.tx_value.specs.Colours.{colour}
 use Rattle.tx_value.specs.declared.property.Property.{Property}
@@ -71,12 +74,13 @@ abbrev pub optional_colour : List Lexeme → Option (Option Ink)
 optional_colour [] = Some None
 optional_colour (t ∷ ts) = option_map (λ ink. Some ink) (colour (t ∷ ts))
 
-abbrev pub borders : List (List ℕ × Option BorderKind)
-borders = map (λ row. (row.0.now, row.1)) BORDERS
+-- of a name, the kind or that there is none
+unfoldable pub border_kind : List ℕ → Option (Option BorderKind)
+border_kind name = entry (map (λ row. (row.0.now, row.1)) BORDERS) name
 
 unfoldable pub border : List Lexeme → Option Value
 border [] = None
-border (t ∷ ts) = bordered (name_in borders t) (optional_colour ts)
+border (t ∷ ts) = bordered (name_in border_kind t) (optional_colour ts)
 
 -- a colour
 abbrev pub ink : List Lexeme → Option Value
@@ -94,8 +98,8 @@ either a b =
       strike = a.strike || b.strike;
     }
 
-abbrev pub all_marks : List (List ℕ × Marks)
-all_marks = map (λ row. (row.0.now, row.1)) MARKS
+unfoldable pub mark_of : List ℕ → Option Marks
+mark_of name = entry (map (λ row. (row.0.now, row.1)) MARKS) name
 
 abbrev pub marked : Option Marks → Option Marks → Option Marks
 marked (Some a) (Some b) = Some (either a b)
@@ -104,7 +108,7 @@ marked None b = None
 
 abbrev pub marks_of : List Lexeme → Option Marks
 marks_of [] = Some NO_MARKS
-marks_of (t ∷ ts) = marked (name_in all_marks t) (marks_of ts)
+marks_of (t ∷ ts) = marked (name_in mark_of t) (marks_of ts)
 
 abbrev pub is_nothing : List Lexeme → Bool
 is_nothing ts = is_some (alone (word_of NOTHINGS) ts)
@@ -207,3 +211,19 @@ value_of property.AlignVertical ts = word PLACES_DOWN ts
 value_of property.ContentAlignHorizontal ts = word PLACES_ACROSS ts
 value_of property.ContentAlignVertical ts = word PLACES_DOWN ts
 value_of property.TextAlign ts = word PLACES_ACROSS ts
+
+-- ---- what the readers of the code answer
+
+-- the value, or that there is none, unless memory is wanting
+abbrev pub GivesValue : Result Value ValueFault → Option Value → Type 0
+GivesValue (Ok v) read = read ≡ Some v
+GivesValue (Err BadValue) read = read ≡ None
+GivesValue (Err UnknownProperty) read = ⊥
+GivesValue (Err NoMemory) read = Unit {0}
+
+-- the same of some items
+abbrev pub GivesItems : {A : Type 0} → Result (Vec A Global) ValueFault → Option (List A) → Type 0
+GivesItems (Ok items) read = read ≡ Some items.items
+GivesItems (Err BadValue) read = read ≡ None
+GivesItems (Err UnknownProperty) read = ⊥
+GivesItems (Err NoMemory) read = Unit {0}

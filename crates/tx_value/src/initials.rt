@@ -1,17 +1,14 @@
 //! Initial values.
 ghost use Rattle.std.specs.Prelude.{◌≡◌};
 ghost use Rattle.tx_value.specs.Initial.{initial, whole_size};
-ghost use Rattle.tx_value.specs.Colours.{clear};
-ghost use Rattle.tx_value.specs.declared.value.Value.TheVariants as value;
-ghost use Rattle.tx_value.specs.declared.value.Word.TheVariants as word;
 
+use crate::colours::clear;
 use crate::property::Property;
 use crate::tables::NO_MARKS;
 use crate::theme::ThemeName;
 use crate::value::{Ink, Sizes, Value, Word};
 use std::alloc::Global;
 use tx_frac::{Frac, Scalar, Unit};
-use tx_geom::{Colour, Rgb};
 
 /// 100 percent.
 fn whole_size() -> Scalar
@@ -21,16 +18,6 @@ fn whole_size() -> Scalar
         value: Frac::whole(100),
         unit: Unit::Percent,
     }
-}
-
-/// Black that covers nothing.
-pub fn clear() -> Ink
-    ensures { result ≡ clear }
-{
-    Ink::Fixed(Colour {
-        rgb: Rgb { r: 0, g: 0, b: 0 },
-        alpha: 0,
-    })
 }
 
 /// The initial value of a property. It takes no memory; a list is still empty.

@@ -4,6 +4,7 @@
 //! [`values_of`] reads the values of a declaration, and a [`Style`] has one value for each property.
 #![tactic(auto)]
 
+mod colours;
 mod declaration;
 mod fault;
 mod initials;
@@ -14,6 +15,7 @@ mod style;
 mod tables;
 mod theme;
 mod value;
+mod values;
 
 pub use declaration::{read_value, values_of};
 pub use fault::ValueFault;

@@ -1,7 +1,7 @@
 //! Names and keywords, each found in its table.
 ghost use Rattle.std.specs.Prelude.{◌≡◌, length, map, slice_get};
 ghost use Rattle.tx_lex.specs.Lexemes.{lexeme};
-ghost use Rattle.tx_value.specs.Names.{entry, entry_in, name_in, is_word, same_word, among, word_of, is_one_of, meaning_of, is_known};
+ghost use Rattle.tx_value.specs.Names.{entry, entry_in, is_word, keyword, same_word, among, word_of, is_one_of, meaning_of, is_known};
 
 use crate::property::Named;
 use crate::tables::{NAMES, WORDS};
@@ -20,15 +20,11 @@ pub fn entry<T: Copy>(table: &[(&[u8], T)], name: &[u8]) -> Option<T>
     None
 }
 
-/// The same for a token that is a name.
-pub fn name_in<T: Copy>(table: &[(&[u8], T)], text: &[u8], token: Token) -> Option<T>
-    ensures { result ≡ name_in (map (λ row. (row.0.now, row.1)) table.now) (lexeme text.now token) }
+#[tactic(auto, unfolding(crate::specs::Names::keyword))]
+fn keyword(name: &[u8]) -> Option<Word>
+    ensures { result ≡ keyword name.now }
 {
-    if token.kind.is_name() {
-        entry(table, token_bytes(text, token))
-    } else {
-        None
-    }
+    entry(&WORDS, name)
 }
 
 /// Whether a token is this name.
@@ -58,7 +54,10 @@ fn among(choices: &[Word], word: Word) -> bool
 pub fn word_of(choices: &[Word], text: &[u8], token: Token) -> Option<Word>
     ensures { result ≡ word_of choices.now (lexeme text.now token) }
 {
-    match name_in(&WORDS, text, token) {
+    if !token.kind.is_name() {
+        return None;
+    }
+    match keyword(token_bytes(text, token)) {
         Some(word) if among(choices, word) => Some(word),
         _ => None,
     }

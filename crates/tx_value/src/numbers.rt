@@ -1,11 +1,10 @@
 //! Numbers and sizes in values.
-ghost use Rattle.std.specs.Prelude.{◌≡◌, ◌≤◌, ◌<◌, ◌^◌, ℕ, true, List, length, IfSome, None, if◌then◌else◌};
+ghost use Rattle.std.specs.Prelude.{◌≡◌, ◌≤◌, ◌<◌, ◌^◌, true, length, IfSome, IsTrue, None, if◌then◌else◌};
 ghost use Rattle.std.specs.Char.{is_ascii_digit};
 ghost use Rattle.std.specs.List.{prefix_len, list_all};
 ghost use Rattle.tx_read.specs.Number.{value};
-ghost use Rattle.tx_value.specs.Names.{entry};
 ghost use Rattle.tx_lex.specs.Lexemes.{lexeme};
-ghost use Rattle.tx_value.specs.Numbers.{digits, behind_digits, numeral_of, has_digits, amount, units, sized, scalar_of, auto, size_of, is_share, limit_of, short_number, whole_of_token, signed_number, signed_of, is_percent_sign, percent_of};
+ghost use Rattle.tx_value.specs.Numbers.{digits, behind_digits, numeral_of, has_digits, amount, unit_of, sized, scalar_of, auto, size_of, is_share, limit_of, short_number, whole_of_token, signed_number, signed_of, is_percent_sign, percent_of};
 
 use crate::names::{entry, is_one_of};
 use crate::tables::{AUTOS, UNITS};
@@ -29,6 +28,7 @@ fn digit_count(bytes: &[u8]) -> usize
 }
 
 /// The digits at the front.
+#[tactic(auto, using(crate::proofs::DigitLemmas::digits_all))]
 fn digits(bytes: &[u8]) -> &[u8]
     ensures front { result.now ≡ digits bytes.now }
     ensures all { list_all is_ascii_digit result.now ≡ true }
@@ -46,6 +46,7 @@ fn behind_digits(bytes: &[u8]) -> &[u8]
 }
 
 /// The number that digits write.
+#[tactic(auto, using(crate::proofs::DigitLemmas::power_small))]
 fn value(digits: &[u8]) -> u64
     requires digits { list_all is_ascii_digit digits.now ≡ true }
     requires short { length digits.now ≤ 18 }
@@ -61,45 +62,57 @@ fn value(digits: &[u8]) -> u64
 
 /// Whether there is a digit, and no more than a number may have.
 fn has_digits(whole: &[u8], decimals: &[u8]) -> bool
-    ensures { (unit : List ℕ) → result ≡ has_digits (record { whole = whole.now; decimals = decimals.now; unit = unit }) }
+    ensures within { IsTrue result → (length whole.now ≤ 9) × (length decimals.now ≤ 18) }
+    ensures value { result ≡ has_digits whole.now decimals.now }
 {
     let some = !whole.is_empty() || !decimals.is_empty();
     some && whole.len() <= MOST_DIGITS && decimals.len() <= MOST_DECIMALS
 }
 
 /// The number that digits and decimals write.
+#[tactic(auto, using(crate::proofs::DigitLemmas::power_small))]
 fn amount(whole: &[u8], decimals: &[u8]) -> Frac
     requires whole_digits { list_all is_ascii_digit whole.now ≡ true }
     requires decimal_digits { list_all is_ascii_digit decimals.now ≡ true }
     requires short_whole { length whole.now ≤ 9 }
     requires short_decimals { length decimals.now ≤ 18 }
-    ensures { (unit : List ℕ) → result ≡ amount (record { whole = whole.now; decimals = decimals.now; unit = unit }) }
+    ensures { result ≡ amount whole.now decimals.now }
 {
-    let scale = 10u64.pow(decimals.len() as u32) as i128;
-    let number = value(whole) as i128 * scale + value(decimals) as i128;
-    match Frac::new(number, scale) {
+    let scale = 10u64.pow(decimals.len() as u32);
+    let number = value(whole) as u128 * scale as u128 + value(decimals) as u128;
+    match Frac::new(number as i128, scale as i128) {
         Some(amount) => amount,
         None => unreachable!(),
     }
+}
+
+#[tactic(auto, unfolding(crate::specs::Numbers::unit_of))]
+fn unit_of(name: &[u8]) -> Option<Unit>
+    ensures { result ≡ unit_of name.now }
+{
+    entry(&UNITS, name)
 }
 
 /// The number with its unit.
 fn sized(whole: &[u8], decimals: &[u8], unit: &[u8]) -> Option<Scalar>
     requires whole_digits { list_all is_ascii_digit whole.now ≡ true }
     requires decimal_digits { list_all is_ascii_digit decimals.now ≡ true }
-    ensures { result ≡ sized (record { whole = whole.now; decimals = decimals.now; unit = unit.now }) (entry units unit.now) }
+    ensures { result ≡ sized (record { whole = whole.now; decimals = decimals.now; unit = unit.now }) (unit_of unit.now) }
 {
-    match entry(&UNITS, unit) {
-        Some(unit) if has_digits(whole, decimals) => Some(Scalar {
-            value: amount(whole, decimals),
-            unit,
-        }),
-        _ => None,
+    let Some(unit) = unit_of(unit) else {
+        return None;
+    };
+    if !has_digits(whole, decimals) {
+        return None;
     }
+    Some(Scalar {
+        value: amount(whole, decimals),
+        unit,
+    })
 }
 
 fn written_size(bytes: &[u8]) -> Option<Scalar>
-    ensures { result ≡ sized (numeral_of bytes.now) (entry units (numeral_of bytes.now).unit) }
+    ensures { result ≡ sized (numeral_of bytes.now) (unit_of (numeral_of bytes.now).unit) }
 {
     let whole = digits(bytes);
     match behind_digits(bytes) {

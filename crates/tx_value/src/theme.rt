@@ -164,6 +164,7 @@ pub const WARNING: Tones = Tones {
 
 /// The predefined variable of this name, which is written without the `$`. None exactly where no
 /// variable of this name is predefined.
+#[tactic(auto, unfolding(crate::specs::Theme::theme_name_of))]
 pub fn theme_name_of(name: &[u8]) -> Option<ThemeName>
     ensures { result ≡ theme_name_of name.now }
 {
