@@ -3,3 +3,7 @@ pub mod Numbered
 pub mod DigitLemmas
 pub mod ColourLemmas
 pub mod EachLemmas
+pub mod SideLemmas
+pub mod BlankLemmas
+pub mod FoundLemmas
+pub mod HoldsLemmas

@@ -10,7 +10,7 @@ use Rattle.tx_value.specs.declared.fault.ValueFault.TheVariants.{UnknownProperty
 use Rattle.tx_value.specs.declared.property.Named.{Named}
 use Rattle.tx_value.specs.declared.property.Named.TheVariants as named
 use Rattle.tx_value.specs.declared.property.Property.{Property}
-use Rattle.tx_value.specs.declared.declaration.Sides.{Sides}
+use Rattle.tx_value.specs.declared.declaration.SideCells.{SideCells}
 use Rattle.tx_value.specs.declared.value.Value.{Value}
 use Rattle.tx_value.specs.declared.value.Value.TheVariants as value
 use Rattle.tx_value.specs.declared.value.Word.{Word}
@@ -35,7 +35,7 @@ abbrev pub cells : Lexeme → Option ℕ
 cells t = whole_of_token 0 9999 t
 
 -- top, right, bottom and left
-abbrev pub four : Option ℕ → Option ℕ → Option ℕ → Option ℕ → Option Sides
+abbrev pub four : Option ℕ → Option ℕ → Option ℕ → Option ℕ → Option SideCells
 four (Some t) (Some r) (Some b) (Some l) = Some (record { top = t; right = r; bottom = b; left = l })
 four (Some t) (Some r) (Some b) None = None
 four (Some t) (Some r) None l = None
@@ -43,7 +43,7 @@ four (Some t) None b l = None
 four None r b l = None
 
 -- all; vertical and horizontal; top, right, bottom and left
-unfoldable pub sides : List Lexeme → Option Sides
+unfoldable pub sides : List Lexeme → Option SideCells
 sides [] = None
 sides (a ∷ []) = four (cells a) (cells a) (cells a) (cells a)
 sides (v ∷ h ∷ []) = four (cells v) (cells h) (cells v) (cells h)
@@ -70,7 +70,7 @@ places (h ∷ []) = None
 places (h ∷ v ∷ []) = both (word_of PLACES_ACROSS h) (word_of PLACES_DOWN v)
 places (h ∷ v ∷ t ∷ ts) = None
 
-abbrev pub four_wholes : Sides → List Value
+abbrev pub four_wholes : SideCells → List Value
 four_wholes s = value.Whole s.top ∷ value.Whole s.right ∷ value.Whole s.bottom ∷ value.Whole s.left ∷ []
 
 abbrev pub two_words : Word × Word → List Value
@@ -133,3 +133,19 @@ GivesPairs (Ok found) read = read ≡ Ok found.items
 GivesPairs (Err UnknownProperty) read = read ≡ Err UnknownProperty
 GivesPairs (Err BadValue) read = read ≡ Err BadValue
 GivesPairs (Err NoMemory) read = Unit {0}
+
+-- ---- what the readers of the code answer
+
+-- these pairs, unless memory is wanting
+abbrev pub GivesSome : Result (Vec Pair Global) ValueFault → List Pair → Type 0
+GivesSome (Ok found) read = found.items ≡ read
+GivesSome (Err UnknownProperty) read = ⊥
+GivesSome (Err BadValue) read = ⊥
+GivesSome (Err NoMemory) read = Unit {0}
+
+-- the pairs, or that there are none, unless memory is wanting
+abbrev pub GivesFound : Result (Vec Pair Global) ValueFault → Option (List Pair) → Type 0
+GivesFound (Ok found) read = read ≡ Some found.items
+GivesFound (Err UnknownProperty) read = ⊥
+GivesFound (Err BadValue) read = read ≡ None
+GivesFound (Err NoMemory) read = Unit {0}

@@ -1,4 +1,5 @@
 pub mod Names
+pub mod Blanks
 pub mod Numbers
 pub mod Colours
 pub mod Theme

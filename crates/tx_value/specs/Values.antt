@@ -6,7 +6,7 @@ use Rattle.tx_value.specs.declared.fault.ValueFault.TheVariants.{UnknownProperty
 use Rattle.tx_frac.specs.declared.scalars.Scalar.{Scalar}
 use Rattle.tx_geom.specs.declared.choices.BorderKind.{BorderKind}
 use Rattle.tx_tree.specs.Name.{is_name}
-use Rattle.tx_lex.specs.Lexemes.{Lexeme, is_name_token}
+use Rattle.tx_lex.specs.Lexemes.{Lexeme}
 use Rattle.tx_value.specs.Names.{entry, name_in, word_of, is_one_of}
 use Rattle.tx_value.specs.Numbers.{scalar_of, size_of, limit_of, whole_of_token, signed_of}
 use Rattle.tx_value.specs.Colours.{colour}
@@ -63,13 +63,6 @@ limit ts = alone limit_in ts
 abbrev pub whole : ℕ → ℕ → List Lexeme → Option Value
 whole least most ts = option_map (λ n. value.Whole n) (alone (whole_of_token least most) ts)
 
--- a kind, and its colour where there is one; `none` with or without a colour is no border
-abbrev pub bordered : Option (Option BorderKind) → Option (Option Ink) → Option Value
-bordered (Some (Some kind)) (Some ink) = Some (value.Border kind ink)
-bordered (Some None) (Some ink) = Some (value.Word Nothing)
-bordered (Some kind) None = None
-bordered None ink = None
-
 abbrev pub optional_colour : List Lexeme → Option (Option Ink)
 optional_colour [] = Some None
 optional_colour (t ∷ ts) = option_map (λ ink. Some ink) (colour (t ∷ ts))
@@ -78,9 +71,29 @@ optional_colour (t ∷ ts) = option_map (λ ink. Some ink) (colour (t ∷ ts))
 unfoldable pub border_kind : List ℕ → Option (Option BorderKind)
 border_kind name = entry (map (λ row. (row.0.now, row.1)) BORDERS) name
 
-unfoldable pub border : List Lexeme → Option Value
-border [] = None
-border (t ∷ ts) = bordered (name_in border_kind t) (optional_colour ts)
+-- a kind with or without a colour, `none` too
+abbrev pub Edge : Type 0
+Edge = Option BorderKind × Option Ink
+
+abbrev pub edge_of : Option (Option BorderKind) → Option (Option Ink) → Option Edge
+edge_of (Some kind) (Some ink) = Some (kind, ink)
+edge_of (Some kind) None = None
+edge_of None ink = None
+
+unfoldable pub edge : List Lexeme → Option Edge
+edge [] = None
+edge (t ∷ ts) = edge_of (name_in border_kind t) (optional_colour ts)
+
+-- `none` is no border, whatever its colour
+abbrev pub drawn : Option BorderKind → Option Ink → Value
+drawn (Some kind) ink = value.Border kind ink
+drawn None ink = value.Word Nothing
+
+abbrev pub bordered : Edge → Value
+bordered e = drawn e.0 e.1
+
+abbrev pub border : List Lexeme → Option Value
+border ts = option_map bordered (edge ts)
 
 -- a colour
 abbrev pub ink : List Lexeme → Option Value
@@ -157,8 +170,11 @@ offset (x ∷ y ∷ []) = pair (signed_of 9999 x) (signed_of 9999 y)
 offset (x ∷ y ∷ t ∷ ts) = None
 
 -- a name of at most 64 bytes
+abbrev pub spelled_name : List ℕ → Option (List ℕ)
+spelled_name bytes = if is_name bytes then Some bytes else None
+
 abbrev pub name_of : Lexeme → Option (List ℕ)
-name_of t = if is_name_token t.kind && is_name t.bytes then Some t.bytes else None
+name_of t = name_in spelled_name t
 
 abbrev pub layers : List Lexeme → Option Value
 layers ts = option_map (λ names. value.Names names) (some_of 32 name_of ts)

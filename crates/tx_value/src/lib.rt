@@ -4,6 +4,7 @@
 //! [`values_of`] reads the values of a declaration, and a [`Style`] has one value for each property.
 #![tactic(auto)]
 
+mod blanks;
 mod colours;
 mod declaration;
 mod fault;
