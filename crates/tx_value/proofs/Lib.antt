@@ -6,4 +6,6 @@ pub mod EachLemmas
 pub mod SideLemmas
 pub mod BlankLemmas
 pub mod FoundLemmas
-pub mod HoldsLemmas
+pub mod Passing
+pub mod Sorts
+pub mod Held

@@ -4,9 +4,10 @@ use Rattle.std.specs.List.{list_all}
 use Rattle.tx_geom.specs.Colour.{Tint}
 use Rattle.tx_frac.specs.declared.scalars.Scalar.{Scalar}
 use Rattle.tx_frac.specs.declared.scalars.Unit.{Unit}
-use Rattle.tx_frac.specs.declared.scalars.Unit.TheVariants.{Fr, Auto}
+use Rattle.tx_frac.specs.declared.scalars.Unit.TheVariants.{Auto}
 use Rattle.tx_tree.specs.Name.{is_name}
 use Rattle.tx_value.specs.Names.{among}
+use Rattle.tx_value.specs.Numbers.{is_share}
 use Rattle.tx_value.specs.declared.property.Property.{Property}
 use Rattle.tx_value.specs.declared.property.Property.TheVariants as property
 use Rattle.tx_value.specs.declared.value.Ink.{Ink}
@@ -31,10 +32,6 @@ is_positive s = not (int_lt s.value.num (pos 0))
 abbrev pub is_auto : Unit → Bool
 is_auto Auto = true
 is_auto _ = false
-
-abbrev pub is_share : Unit → Bool
-is_share Fr = true
-is_share _ = false
 
 -- a size, `auto` or not
 abbrev pub is_size : Value → Bool
