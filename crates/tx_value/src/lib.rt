@@ -14,6 +14,8 @@ mod numbers;
 mod property;
 mod style;
 mod tables;
+#[cfg(test)]
+mod tests;
 mod theme;
 mod value;
 mod values;
