@@ -9,3 +9,4 @@ pub mod FoundLemmas
 pub mod Passing
 pub mod Sorts
 pub mod Held
+pub mod StyleLemmas

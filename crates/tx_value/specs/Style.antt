@@ -70,3 +70,11 @@ with_value style property value = slice_set style (number property) value
 -- the initial value of each
 abbrev pub initial_style : List Value
 initial_style = map initial EVERY_PROPERTY
+
+-- a style is what its values for all properties make
+abbrev pub StylesAreTheirValues : Type 0
+StylesAreTheirValues = (style : List Value) → IsStyle style → style ≡ map (style_value style) EVERY_PROPERTY
+
+-- and any choice of values makes one
+abbrev pub ValuesMakeStyles : Type 0
+ValuesMakeStyles = (choice : Property → Value) → IsStyle (map choice EVERY_PROPERTY) × ((property : Property) → style_value (map choice EVERY_PROPERTY) property ≡ choice property)

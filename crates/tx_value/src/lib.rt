@@ -9,6 +9,7 @@ mod colours;
 mod declaration;
 mod fault;
 mod initials;
+pub mod laws;
 mod names;
 mod numbers;
 mod property;

@@ -31,7 +31,8 @@ ghost use Rattle.tx_value.specs.Style.{Values, IsStyle};
 impl Style {
     /// The initial value of each property.
     pub fn initial(alloc: Global) -> Result<Style, NoMemory>
-        ensures { IfOk result (λ s. s ≡ initial_style) }
+        ensures exact { IfOk result (λ s. s ≡ initial_style) }
+        ensures each { IfOk result (λ s. (property : Property) → style_value s property ≡ initial property) }
     {
         let values = initial_values(alloc, &EVERY_PROPERTY)?;
         Ok(Style { values })
