@@ -66,8 +66,8 @@ signed : (bytes : List ℕ) → passes holds.is_offset_part (signed_number 9999 
 signed [] = refl
 signed (b ∷ bytes) =
     one_of_two holds.is_offset_part (nat_eq b 45) _ _
-        (through holds.is_offset_part (λ n. neg_ℤ (pos n)) (short_number 9999 bytes) (weaker (λ n. nat_le n 9999) (λ n. holds.is_offset_part (neg_ℤ (pos n))) (short_number 9999 bytes) part_of (short 9999 bytes)))
-        (through holds.is_offset_part (λ n. pos n) (short_number 9999 (b ∷ bytes)) (short 9999 (b ∷ bytes)))
+    (through holds.is_offset_part (λ n. neg_ℤ (pos n)) (short_number 9999 bytes) (weaker (λ n. nat_le n 9999) (λ n. holds.is_offset_part (neg_ℤ (pos n))) (short_number 9999 bytes) part_of (short 9999 bytes)))
+    (through holds.is_offset_part (λ n. pos n) (short_number 9999 (b ∷ bytes)) (short 9999 (b ∷ bytes)))
 
 signed_token : (t : Lexeme) → passes holds.is_offset_part (signed_of 9999 t) ≡ true
 signed_token t = checked holds.is_offset_part (is_number_kind t.kind) _ (λ h. signed t.bytes)
@@ -127,7 +127,7 @@ track t = checked holds.is_track (is_number_kind t.kind) _ (λ h. sized_passes (
 pub size : (ts : List Lexeme) → passes holds.is_size (values.size ts) ≡ true
 size ts =
     through holds.is_size (λ s. value.Size s) (values.alone size_of ts) (of_alone holds.is_positive size_of ts (λ t.
-        one_of_two holds.is_positive (is_one_of AUTOS t) (Some auto) (scalar_of t) refl (weaker holds.is_track holds.is_positive (scalar_of t) (λ s h. first_true (holds.is_positive s) _ h) (track t))))
+    one_of_two holds.is_positive (is_one_of AUTOS t) (Some auto) (scalar_of t) refl (weaker holds.is_track holds.is_positive (scalar_of t) (λ s h. first_true (holds.is_positive s) _ h) (track t))))
 
 unshared : (o : Option Scalar) → passes holds.is_track o ≡ true → passes (λ s. holds.is_track s && not (is_share s.unit)) (unless_share o) ≡ true
 unshared None h = refl
@@ -180,7 +180,7 @@ unfolding colour
 colour_passes [] = refl
 colour_passes (t ∷ ts) =
     one_of_two holds.is_ink (is_word TRANSPARENT.now t) (transparent ts) _ (clear_passes ts)
-        (one_of_two holds.is_ink (is_word RGB.now t) (rgb_colour ts) _ (ink_passes _ (alpha_of (drop 7 ts)) (alpha (drop 7 ts))) (ink_passes (hue_of t) (alpha_of ts) (alpha ts)))
+    (one_of_two holds.is_ink (is_word RGB.now t) (rgb_colour ts) _ (ink_passes _ (alpha_of (drop 7 ts)) (alpha (drop 7 ts))) (ink_passes (hue_of t) (alpha_of ts) (alpha ts)))
 
 pub ink : (ts : List Lexeme) → passes holds.is_colour (values.ink ts) ≡ true
 ink ts = through holds.is_colour (λ i. value.Ink i) (colour ts) (colour_passes ts)

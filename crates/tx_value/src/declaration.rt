@@ -111,10 +111,7 @@ fn overflows(text: &[u8], parts: &[Token]) -> Option<(Word, Word)>
             let word = word_of(&OVERFLOWS, text, *all);
             both(word, word)
         }
-        [x, y] => both(
-            word_of(&OVERFLOWS, text, *x),
-            word_of(&OVERFLOWS, text, *y),
-        ),
+        [x, y] => both(word_of(&OVERFLOWS, text, *x), word_of(&OVERFLOWS, text, *y)),
         _ => None,
     }
 }
@@ -144,10 +141,7 @@ fn is_initial(text: &[u8], parts: &[Token]) -> bool
 }
 
 /// The properties, each with `initial`.
-fn initials(
-    alloc: Global,
-    properties: &[Property],
-) -> Result<Vec<(Property, Value)>, ValueFault>
+fn initials(alloc: Global, properties: &[Property]) -> Result<Vec<(Property, Value)>, ValueFault>
     ensures { GivesSome result (map (λ p. (p, value.Initial)) properties.now) }
 {
     let mut pairs = Vec::new(alloc);

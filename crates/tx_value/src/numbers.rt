@@ -14,6 +14,7 @@ use tx_read::number_at_most;
 
 // The most digits that a number has before its point, and behind it.
 const MOST_DIGITS: usize = 9;
+
 const MOST_DECIMALS: usize = 18;
 
 /// How many digits stand at the front.

@@ -19,7 +19,7 @@ pub struct Style {
 
 impl Model for Style {
     ghost use Rattle.tx_value.specs.Initial.{initial};
-ghost use Rattle.tx_value.specs.Style.{Values, IsStyle};
+    ghost use Rattle.tx_value.specs.Style.{Values, IsStyle};
 
     ghost Value = { Values };
 

@@ -11,9 +11,7 @@ pub const NAMES: [&[(&[u8], Named)]; 25] = [
     &[],
     &[],
     &[],
-    &[
-        (b"dock", Named::Longhand(Property::Dock)),
-    ],
+    &[(b"dock", Named::Longhand(Property::Dock))],
     &[
         (b"width", Named::Longhand(Property::Width)),
         (b"color", Named::Longhand(Property::Color)),
@@ -79,21 +77,24 @@ pub const NAMES: [&[(&[u8], Named)]; 25] = [
         (b"align-vertical", Named::Longhand(Property::AlignVertical)),
     ],
     &[],
-    &[
-        (b"align-horizontal", Named::Longhand(Property::AlignHorizontal)),
-    ],
+    &[(
+        b"align-horizontal",
+        Named::Longhand(Property::AlignHorizontal),
+    )],
     &[],
     &[],
     &[],
     &[],
     &[],
-    &[
-        (b"content-align-vertical", Named::Longhand(Property::ContentAlignVertical)),
-    ],
+    &[(
+        b"content-align-vertical",
+        Named::Longhand(Property::ContentAlignVertical),
+    )],
     &[],
-    &[
-        (b"content-align-horizontal", Named::Longhand(Property::ContentAlignHorizontal)),
-    ],
+    &[(
+        b"content-align-horizontal",
+        Named::Longhand(Property::ContentAlignHorizontal),
+    )],
 ];
 
 // ---- the properties of the names that stand for several
@@ -104,20 +105,25 @@ pub const MARGINS: [Property; 4] = [
     Property::MarginBottom,
     Property::MarginLeft,
 ];
+
 pub const PADDINGS: [Property; 4] = [
     Property::PaddingTop,
     Property::PaddingRight,
     Property::PaddingBottom,
     Property::PaddingLeft,
 ];
+
 pub const BORDER_SIDES: [Property; 4] = [
     Property::BorderTop,
     Property::BorderRight,
     Property::BorderBottom,
     Property::BorderLeft,
 ];
+
 pub const OVERFLOW_AXES: [Property; 2] = [Property::OverflowX, Property::OverflowY];
+
 pub const ALIGN_AXES: [Property; 2] = [Property::AlignHorizontal, Property::AlignVertical];
+
 pub const CONTENT_ALIGN_AXES: [Property; 2] = [
     Property::ContentAlignHorizontal,
     Property::ContentAlignVertical,
@@ -147,8 +153,11 @@ pub const WORDS: [(&[u8], Word); 17] = [
 
 // The keywords that the properties take.
 pub const DISPLAYS: [Word; 2] = [Word::Block, Word::Nothing];
+
 pub const VISIBILITIES: [Word; 2] = [Word::Visible, Word::Hidden];
+
 pub const LAYOUTS: [Word; 3] = [Word::Vertical, Word::Horizontal, Word::Grid];
+
 pub const DOCKS: [Word; 5] = [
     Word::Top,
     Word::Right,
@@ -156,15 +165,23 @@ pub const DOCKS: [Word; 5] = [
     Word::Left,
     Word::Nothing,
 ];
+
 pub const BOX_SIZINGS: [Word; 2] = [Word::BorderBox, Word::ContentBox];
+
 pub const OVERFLOWS: [Word; 3] = [Word::Auto, Word::Hidden, Word::Scroll];
+
 pub const PLACES_ACROSS: [Word; 3] = [Word::Left, Word::Center, Word::Right];
+
 pub const PLACES_DOWN: [Word; 3] = [Word::Top, Word::Middle, Word::Bottom];
+
 pub const NOTHINGS: [Word; 1] = [Word::Nothing];
+
 pub const AUTOS: [Word; 1] = [Word::Auto];
 
 pub const INITIAL: &[u8] = b"initial";
+
 pub const RGB: &[u8] = b"rgb";
+
 pub const TRANSPARENT: &[u8] = b"transparent";
 
 // The kinds of a border, and that there is none.

@@ -53,6 +53,7 @@ pub const BACKGROUND: Tones = Tones {
         b: 0xe0,
     },
 };
+
 pub const SURFACE: Tones = Tones {
     dark: Rgb {
         r: 0x1e,
@@ -65,6 +66,7 @@ pub const SURFACE: Tones = Tones {
         b: 0xd8,
     },
 };
+
 pub const PANEL: Tones = Tones {
     dark: Rgb {
         r: 0x24,
@@ -77,6 +79,7 @@ pub const PANEL: Tones = Tones {
         b: 0xd0,
     },
 };
+
 pub const PRIMARY: Tones = Tones {
     dark: Rgb {
         r: 0x01,
@@ -89,6 +92,7 @@ pub const PRIMARY: Tones = Tones {
         b: 0x78,
     },
 };
+
 pub const SECONDARY: Tones = Tones {
     dark: Rgb {
         r: 0x00,
@@ -101,6 +105,7 @@ pub const SECONDARY: Tones = Tones {
         b: 0xd4,
     },
 };
+
 pub const FOREGROUND: Tones = Tones {
     dark: Rgb {
         r: 0xe0,
@@ -113,6 +118,7 @@ pub const FOREGROUND: Tones = Tones {
         b: 0x1f,
     },
 };
+
 pub const TEXT: Tones = Tones {
     dark: Rgb {
         r: 0xff,
@@ -125,6 +131,7 @@ pub const TEXT: Tones = Tones {
         b: 0x00,
     },
 };
+
 pub const ERROR: Tones = Tones {
     dark: Rgb {
         r: 0xba,
@@ -137,6 +144,7 @@ pub const ERROR: Tones = Tones {
         b: 0x5b,
     },
 };
+
 pub const SUCCESS: Tones = Tones {
     dark: Rgb {
         r: 0x4e,
@@ -149,6 +157,7 @@ pub const SUCCESS: Tones = Tones {
         b: 0x41,
     },
 };
+
 pub const WARNING: Tones = Tones {
     dark: Rgb {
         r: 0xff,
