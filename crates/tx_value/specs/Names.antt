@@ -39,6 +39,7 @@ abbrev pub if_among : List Word → Option Word → Option Word
 if_among choices None = None
 if_among choices (Some word) = if among choices word then Some word else None
 
+-- the keyword of a name
 unfoldable pub keyword : List ℕ → Option Word
 keyword name = entry (map (λ row. (row.0.now, row.1)) WORDS) name
 
@@ -51,10 +52,11 @@ is_one_of choices t = is_some (word_of choices t)
 
 -- ---- names of declarations
 
--- all of them, with what each stands for, with what each stands for
+-- those of each length, with what each stands for
 abbrev pub tables : List (List (List ℕ × Named))
 tables = map (λ table. map (λ row. (row.0.now, row.1)) table.now) NAMES
 
+-- all of them
 unfoldable pub all_names : List (List ℕ × Named)
 all_names = flat_map (λ table. table) tables
 

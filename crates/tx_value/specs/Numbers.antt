@@ -45,6 +45,7 @@ amount whole decimals = lowest (pos (value whole * 10 ^ length decimals + value 
 
 -- ---- sizes
 
+-- the unit of a name; no name is that of cells
 unfoldable pub unit_of : List ℕ → Option Unit
 unit_of name = entry (map (λ row. (row.0.now, row.1)) UNITS) name
 

@@ -1,6 +1,6 @@
 //! The properties of a row.
 
-/// A property that has one value.
+/// A property that has one value, called as in TCSS: `MarginTop` is `margin-top`.
 ///
 /// A name that stands for several of them, as `margin` does, is no property.
 #[derive(Clone, Copy, Debug, PartialEq, Eq)]
