@@ -1,7 +1,7 @@
 //! Tokens without the spaces and comments among them.
-ghost use Rattle.std.specs.Prelude.{◌≡◌, ◌≤◌, length, IfOk, IfSome};
+ghost use Rattle.std.specs.Prelude.{◌≡◌, ◌↔◌, ◌≤◌, length, IfOk, IfSome, IsSome, IsTrue};
 ghost use Rattle.std.specs.List.{list_all, prefix_len};
-ghost use Rattle.tx_value.specs.Blanks.{is_gap, is_part, parts};
+ghost use Rattle.tx_value.specs.Blanks.{is_gap, is_part, parts, from_part, behind_parts};
 
 use std::alloc::{AllocError, Global};
 use tx_lex::Token;
@@ -38,7 +38,8 @@ fn part_count(tokens: &[Token]) -> usize
 /// The tokens from the first one on that is no space or comment.
 #[tactic(auto, using(crate::proofs::BlankLemmas::parts_behind))]
 pub fn from_part(tokens: &[Token]) -> &[Token]
-    ensures { parts result.now ≡ parts tokens.now }
+    ensures rest { result.now ≡ from_part tokens.now }
+    ensures same { parts result.now ≡ parts tokens.now }
 {
     let (_, rest) = tokens.split_at(gap_count(tokens));
     rest
@@ -53,7 +54,8 @@ fn all_gaps(tokens: &[Token]) -> bool
 /// The parts, where no space or comment stands between two of them.
 #[tactic(auto, using(crate::proofs::BlankLemmas::parts_in_front))]
 pub fn parts_in_front(tokens: &[Token]) -> Option<&[Token]>
-    ensures { IfSome result (λ found. found.now ≡ parts tokens.now) }
+    ensures some { IsSome result ↔ IsTrue (list_all is_gap (behind_parts tokens.now)) }
+    ensures front { IfSome result (λ found. found.now ≡ parts tokens.now) }
 {
     let (front, rest) = tokens.split_at(part_count(tokens));
     if all_gaps(rest) { Some(front) } else { None }
