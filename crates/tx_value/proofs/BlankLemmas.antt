@@ -1,5 +1,5 @@
 -- What is left of tokens without their gaps.
-use Rattle.std.proofs.Common.{◌≡◌, ℕ, ◌+◌, ◌≤◌, Bool, true, false, not, ◌&&◌, List, [], ◌∷◌, length, take, drop, filter, cond, refl, ap, suc, subst, ◌∙◌, arith, add_comm, add-one}
+use Rattle.std.proofs.Common.{◌≡◌, ℕ, ◌+◌, ◌≤◌, Bool, true, false, not, List, [], ◌∷◌, length, take, drop, cond, refl, ap, suc, subst, ◌∙◌, arith, add_comm, add-one}
 use Rattle.std.proofs.lemmas.List.Sums.{prefix_len-le-length}
 use Rattle.std.specs.List.{list_all, prefix_len}
 use Rattle.tx_lex.specs.Lexemes.{lexeme, lexemes, is_blank}

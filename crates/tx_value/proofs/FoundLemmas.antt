@@ -1,11 +1,11 @@
 -- What a declaration answers, from the pairs of its name.
-use Rattle.std.proofs.Common.{◌≡◌, ℕ, List, map, Option, Some, None, Result, Ok, Err, Vec, refl, ap, sym, ◌∙◌, subst}
+use Rattle.std.proofs.Common.{◌≡◌, ℕ, List, Option, Some, Result, Ok, Err, Vec, ap}
 use Rattle.std.specs.declared.alloc.Global.{Global}
 use Rattle.tx_lex.specs.Lexemes.{Lexeme, lexemes}
 use Rattle.tx_lex.specs.declared.token.Token.{Token}
 use Rattle.tx_value.specs.Blanks.{parts}
 use Rattle.tx_value.specs.Names.{meaning_of}
-use Rattle.tx_value.specs.Declarations.{Pair, GivesFound, GivesPairs, pairs_of, judged, valued, declaration, without_blanks}
+use Rattle.tx_value.specs.Declarations.{Pair, GivesFound, GivesPairs, pairs_of, judged, declaration, without_blanks}
 use Rattle.tx_value.specs.declared.fault.ValueFault.{ValueFault}
 use Rattle.tx_value.specs.declared.fault.ValueFault.TheVariants.{UnknownProperty, BadValue, NoMemory}
 use Rattle.tx_value.specs.declared.property.Named.{Named}

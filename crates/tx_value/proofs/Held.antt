@@ -1,5 +1,5 @@
 -- Each value that a declaration gives is one that the table gives its property.
-use Rattle.std.proofs.Common.{◌≡◌, ℕ, ◌+◌, Bool, true, false, ◌&&◌, nat_le, List, [], ◌∷◌, map, Option, Some, None, option_map, Result, Ok, Err, Vec, cond, refl, subst}
+use Rattle.std.proofs.Common.{◌≡◌, ℕ, Bool, true, false, ◌&&◌, List, [], ◌∷◌, map, Option, Some, None, option_map, Result, Ok, Err, Vec, cond, refl, subst}
 use Rattle.std.specs.declared.alloc.Global.{Global}
 use Rattle.std.specs.Prelude.{IfOk}
 use Rattle.tx_lex.specs.Lexemes.{Lexeme}
@@ -19,7 +19,7 @@ use Rattle.tx_value.specs.declared.value.Value.{Value}
 use Rattle.tx_value.specs.declared.value.Value.TheVariants as value
 use Rattle.tx_value.specs.declared.value.Word.{Word}
 use Rattle.tx_value.specs.declared.tables.TheConstants.{DISPLAYS, VISIBILITIES, LAYOUTS, DOCKS, BOX_SIZINGS, OVERFLOWS, PLACES_ACROSS, PLACES_DOWN}
-use Rattle.tx_value.proofs.Passing.{passes, both_true, first_true, second_true, of_alone}
+use Rattle.tx_value.proofs.Passing.{passes, both_true, first_true, second_true}
 use Rattle.tx_value.proofs.Sorts as sorts
 
 -- ---- one property

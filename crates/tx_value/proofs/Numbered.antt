@@ -1,5 +1,5 @@
 -- Properties of one number are one.
-use Rattle.std.proofs.Common.{◌≡◌, ℕ, Option, Some, None, slice_get, refl, ap, sym, ◌∙◌, option_map}
+use Rattle.std.proofs.Common.{◌≡◌, Some, slice_get, refl, ap, sym, ◌∙◌}
 use Rattle.tx_value.specs.Style.{number}
 use Rattle.tx_value.specs.declared.property.Property.{Property}
 use Rattle.tx_value.specs.declared.property.Property.TheVariants as property

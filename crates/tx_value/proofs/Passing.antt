@@ -1,5 +1,5 @@
 -- Tests of what an option holds, where it holds something.
-use Rattle.std.proofs.Common.{◌≡◌, ℕ, suc, Bool, true, false, ◌&&◌, nat_le, List, [], ◌∷◌, length, Option, Some, None, option_map, bytes_eq, cond, refl, ap, ◌∙◌, arith}
+use Rattle.std.proofs.Common.{◌≡◌, ℕ, suc, Bool, true, false, ◌&&◌, List, [], ◌∷◌, length, Option, Some, None, option_map, bytes_eq, cond, refl, ap}
 use Rattle.std.specs.List.{list_all}
 use Rattle.tx_lex.specs.Lexemes.{Lexeme}
 use Rattle.tx_value.specs.Names.{entry}

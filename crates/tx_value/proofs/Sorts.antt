@@ -1,8 +1,8 @@
 -- What each sort of values gives passes the test of that sort.
-use Rattle.std.proofs.Common.{◌≡◌, ℕ, zero, suc, ◌+◌, ◌*◌, ◌^◌, ◌≤◌, ℤ, pos, neg_ℤ, unsigned_abs, Bool, true, false, not, ◌&&◌, nat_eq, nat_le, nat_lt, List, [], ◌∷◌, length, map, take, drop, Option, Some, None, option_map, cond, refl, ap, ◌∙◌, arith}
+use Rattle.std.proofs.Common.{◌≡◌, ℕ, zero, suc, ℤ, pos, neg_ℤ, Bool, true, false, not, ◌&&◌, nat_eq, nat_le, List, [], ◌∷◌, map, drop, Option, Some, None, option_map, cond, refl, ap, arith}
 use Rattle.std.specs.Prelude.{int_lt}
 use Rattle.std.proofs.lemmas.Bool.Decides.{nat_tests}
-use Rattle.tx_frac.specs.Ratio.{Ratio, lowest}
+use Rattle.tx_frac.specs.Ratio.{lowest}
 use Rattle.tx_frac.specs.declared.scalars.Scalar.{Scalar}
 use Rattle.tx_frac.specs.declared.scalars.Unit.{Unit}
 use Rattle.tx_geom.specs.declared.choices.BorderKind.{BorderKind}
@@ -10,8 +10,8 @@ use Rattle.tx_read.specs.Number.{number_at_most, is_number, value}
 use Rattle.tx_lex.specs.Lexemes.{Lexeme, is_name_token, is_number as is_number_kind}
 use Rattle.tx_tree.specs.Name.{is_name}
 use Rattle.tx_value.specs.Names.{keyword, name_in, if_among, among, word_of, is_one_of, is_word}
-use Rattle.tx_value.specs.Numbers.{Numeral, numeral_of, amount, has_digits, unit_of, sized, scalar_of, auto, size_of, is_share, unless_share, limit_of, short_number, from_least, whole_of_token, signed_number, signed_of, is_percent_sign, digits, behind_digits, percent_of}
-use Rattle.tx_value.specs.Colours.{alpha_of, inked, ink_of, clear, transparent, rgb_colour, channels, hue_of, colour}
+use Rattle.tx_value.specs.Numbers.{Numeral, numeral_of, has_digits, unit_of, sized, scalar_of, auto, size_of, is_share, unless_share, limit_of, short_number, from_least, whole_of_token, signed_number, signed_of, is_percent_sign, digits, behind_digits, percent_of}
+use Rattle.tx_value.specs.Colours.{alpha_of, ink_of, transparent, rgb_colour, hue_of, colour}
 use Rattle.tx_value.specs.Values as values
 use Rattle.tx_value.specs.Holds as holds
 use Rattle.tx_value.specs.declared.value.Hue.{Hue}

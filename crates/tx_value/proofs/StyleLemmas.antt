@@ -1,7 +1,7 @@
 -- Styles as choices of values.
-use Rattle.std.proofs.Common.{◌≡◌, ℕ, List, length, map, get_or, refl, ap, ◌∙◌, arith}
+use Rattle.std.proofs.Common.{◌≡◌, map, get_or, refl}
 use Rattle.std.proofs.lemmas.List.FromFn.{fill_by_all}
-use Rattle.tx_value.specs.Style.{number, IsStyle, style_value, StylesAreTheirValues, ValuesMakeStyles}
+use Rattle.tx_value.specs.Style.{number, style_value, StylesAreTheirValues, ValuesMakeStyles}
 use Rattle.tx_value.specs.declared.property.Property.{Property}
 use Rattle.tx_value.specs.declared.property.Property.TheVariants as property
 use Rattle.tx_value.specs.declared.property.TheConstants.{EVERY_PROPERTY}

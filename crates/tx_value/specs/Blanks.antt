@@ -1,5 +1,5 @@
 -- Tokens without the spaces and comments among them.
-use Rattle.std.specs.Prelude.{ℕ, Bool, not, List, take, drop, filter}
+use Rattle.std.specs.Prelude.{Bool, not, List, take, drop, filter}
 use Rattle.std.specs.List.{prefix_len}
 use Rattle.tx_lex.specs.Lexemes.{is_blank}
 use Rattle.tx_lex.specs.declared.token.Token.{Token}

@@ -1,14 +1,11 @@
 -- Colours in values.
-use Rattle.std.specs.Prelude.{ℕ, ◌+◌, ◌-◌, ◌*◌, ◌≤◌, Bool, true, false, ◌&&◌, nat_eq, nat_le, List, [], ◌∷◌, length, take, drop, map, Option, Some, None, option_map, if◌then◌else◌}
-use Rattle.std.specs.List.{list_all}
-use Rattle.tx_geom.specs.Colour.{Tint}
+use Rattle.std.specs.Prelude.{ℕ, ◌+◌, ◌-◌, ◌*◌, Bool, ◌&&◌, nat_le, List, [], ◌∷◌, take, drop, map, Option, Some, None, option_map, if◌then◌else◌}
 use Rattle.tx_geom.specs.declared.colours.Rgb.{Rgb}
 use Rattle.tx_lex.specs.declared.token.TokenKind.{TokenKind}
 use Rattle.tx_lex.specs.Lexemes.{Lexeme, is_name_token, is_hash, is_variable, is_mark}
 use Rattle.tx_value.specs.Names.{entry, is_word}
 use Rattle.tx_value.specs.Numbers.{whole_of_token, percent_of}
 use Rattle.tx_value.specs.Theme.{theme_name_of}
-use Rattle.tx_value.specs.declared.theme.ThemeName.{ThemeName}
 use Rattle.tx_value.specs.declared.value.Hue.{Hue}
 use Rattle.tx_value.specs.declared.value.Hue.TheVariants.{Plain, Themed}
 use Rattle.tx_value.specs.declared.value.Ink.{Ink}

@@ -1,10 +1,10 @@
 -- What a declaration stands for.
-use Rattle.std.specs.Prelude.{◌≡◌, ℕ, Bool, true, false, not, List, [], ◌∷◌, map, filter, Option, Some, None, option_map, Result, Ok, Err, Vec, if◌then◌else◌}
+use Rattle.std.specs.Prelude.{◌≡◌, ℕ, Bool, false, not, List, [], ◌∷◌, map, filter, Option, Some, None, option_map, Result, Ok, Err, Vec, if◌then◌else◌}
 use Rattle.std.specs.declared.alloc.Global.{Global}
 use Rattle.tx_lex.specs.Lexemes.{Lexeme, is_blank}
 use Rattle.tx_value.specs.Names.{is_word, word_of, meaning_of}
 use Rattle.tx_value.specs.Numbers.{whole_of_token}
-use Rattle.tx_value.specs.Values.{alone, border, value_of}
+use Rattle.tx_value.specs.Values.{border, value_of}
 use Rattle.tx_value.specs.declared.fault.ValueFault.{ValueFault}
 use Rattle.tx_value.specs.declared.fault.ValueFault.TheVariants.{UnknownProperty, BadValue, NoMemory}
 use Rattle.tx_value.specs.declared.property.Named.{Named}

@@ -1,7 +1,6 @@
 -- What the table of properties gives each property.
-use Rattle.std.specs.Prelude.{ℕ, ℤ, ◌≡◌, ◌≤◌, ◌^◌, ◌<◌, unsigned_abs, neg_ℤ, pos, Bool, true, false, not, ◌&&◌, ◌||◌, nat_le, int_lt, IsTrue, List, [], ◌∷◌, length, Option, Some, None}
+use Rattle.std.specs.Prelude.{ℕ, ℤ, unsigned_abs, pos, Bool, true, false, not, ◌&&◌, nat_le, int_lt, IsTrue, List, [], ◌∷◌, length, Option, Some, None}
 use Rattle.std.specs.List.{list_all}
-use Rattle.tx_geom.specs.Colour.{Tint}
 use Rattle.tx_frac.specs.declared.scalars.Scalar.{Scalar}
 use Rattle.tx_frac.specs.declared.scalars.Unit.{Unit}
 use Rattle.tx_frac.specs.declared.scalars.Unit.TheVariants.{Auto}
@@ -15,7 +14,6 @@ use Rattle.tx_value.specs.declared.value.Ink.TheVariants.{Fixed, Theme}
 use Rattle.tx_value.specs.declared.value.Value.{Value}
 use Rattle.tx_value.specs.declared.value.Value.TheVariants as value
 use Rattle.tx_value.specs.declared.value.Word.{Word}
-use Rattle.tx_value.specs.declared.value.Word.TheVariants.{Nothing}
 use Rattle.tx_value.specs.declared.tables.TheConstants.{DISPLAYS, VISIBILITIES, LAYOUTS, DOCKS, BOX_SIZINGS, OVERFLOWS, PLACES_ACROSS, PLACES_DOWN, NOTHINGS}
 
 -- ---- sorts of values

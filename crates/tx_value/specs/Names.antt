@@ -1,5 +1,5 @@
 -- Names and keywords, each found in its table.
-use Rattle.std.specs.Prelude.{ℕ, Bool, true, false, List, [], ◌∷◌, ◌++◌, Option, Some, None, bytes_eq, is_some, map, if◌then◌else◌}
+use Rattle.std.specs.Prelude.{ℕ, Bool, false, List, [], ◌∷◌, Option, Some, None, bytes_eq, is_some, map, if◌then◌else◌}
 use Rattle.std.specs.List.{list_any, flat_map}
 use Rattle.tx_lex.specs.Lexemes.{Lexeme, is_name_token}
 use denote.Enum.Bare.{sameb}

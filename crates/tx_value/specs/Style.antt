@@ -1,5 +1,5 @@
 -- Styles: one value for each property.
-use Rattle.std.specs.Prelude.{◌≡◌, ℕ, List, [], ◌∷◌, length, map, get_or, slice_set}
+use Rattle.std.specs.Prelude.{◌≡◌, ℕ, List, length, map, get_or, slice_set}
 use Rattle.tx_value.specs.Initial.{initial}
 use Rattle.tx_value.specs.declared.property.Property.{Property}
 use Rattle.tx_value.specs.declared.property.Property.TheVariants.{Display, Visibility, Layout, Dock, Width, Height, MinWidth, MaxWidth, MinHeight, MaxHeight, BoxSizing, MarginTop, MarginRight, MarginBottom, MarginLeft, PaddingTop, PaddingRight, PaddingBottom, PaddingLeft, BorderTop, BorderRight, BorderBottom, BorderLeft, Background, Color, TextStyle, GridSize, GridColumns, GridRows, GridGutter, ColumnSpan, RowSpan, Layers, Layer, OverflowX, OverflowY, Offset, AlignHorizontal, AlignVertical, ContentAlignHorizontal, ContentAlignVertical, TextAlign}

@@ -1,9 +1,8 @@
 -- The values of each property, as the table of properties has them. Spaces and comments are left out before.
-use Rattle.std.specs.Prelude.{◌≡◌, ℕ, ◌+◌, ℤ, pos, Bool, true, false, ◌&&◌, ◌||◌, nat_le, List, [], ◌∷◌, length, map, Option, Some, None, option_map, is_some, Result, Ok, Err, Vec, if◌then◌else◌}
+use Rattle.std.specs.Prelude.{◌≡◌, ℕ, ℤ, pos, Bool, ◌&&◌, ◌||◌, nat_le, List, [], ◌∷◌, length, map, Option, Some, None, option_map, is_some, Result, Ok, Err, Vec, if◌then◌else◌}
 use Rattle.std.specs.declared.alloc.Global.{Global}
 use Rattle.tx_value.specs.declared.fault.ValueFault.{ValueFault}
 use Rattle.tx_value.specs.declared.fault.ValueFault.TheVariants.{UnknownProperty, BadValue, NoMemory}
-use Rattle.tx_frac.specs.declared.scalars.Scalar.{Scalar}
 use Rattle.tx_geom.specs.declared.choices.BorderKind.{BorderKind}
 use Rattle.tx_tree.specs.Name.{is_name}
 use Rattle.tx_lex.specs.Lexemes.{Lexeme}

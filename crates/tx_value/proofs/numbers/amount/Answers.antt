@@ -1,6 +1,4 @@
-use Rattle.std.proofs.Common.{◌≤◌, ◌<◌, ◌^◌, ◌*◌, ◌+◌, ◌≡◌, ◌∙◌, length, arith, refl}
-use Rattle.tx_frac.specs.Ratio.{lowest}
-use Rattle.tx_value.specs.Numbers.{amount}
+use Rattle.std.proofs.Common.{◌≤◌, ◌^◌, ◌∙◌, length, arith, refl}
 use Rattle.tx_value.proofs.DigitLemmas.{power_small, power_some, below_end, fraction_defined, fraction_of}
 use Rattle.tx_value.proofs.numbers.amount.Goals as goal
 

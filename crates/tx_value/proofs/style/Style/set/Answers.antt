@@ -1,4 +1,4 @@
-use Rattle.std.proofs.Common.{rules, ◌≡◌, List, get_or, ◌∙◌, ap}
+use Rattle.std.proofs.Common.{List, get_or, ◌∙◌, ap}
 use Rattle.std.proofs.lemmas.List.{get_or-set_other}
 use Rattle.tx_value.specs.Style.{number}
 use Rattle.tx_value.specs.declared.value.Value.{Value}
