@@ -11,7 +11,8 @@ use std::alloc::{AllocError, Global};
 use std::marker::Model;
 use tx_tree::NoMemory;
 
-/// A value for each property. It is seen as the list of these, in the order of [`Property`].
+/// A value for each property, in one block of memory. It is seen as the list of these, in the order
+/// of [`Property`].
 #[derive(Debug, Drop)]
 pub struct Style {
     values: Vec<Value>,
@@ -87,7 +88,9 @@ fn initial_values(alloc: Global, properties: &[Property]) -> Result<Vec<Value>, 
 fn copies(alloc: Global, values: &[Value]) -> Result<Vec<Value>, NoMemory>
     ensures { IfOk result (λ copies. copies.items ≡ values.now) }
 {
-    let mut copies = Vec::new(alloc);
+    let Ok(mut copies) = Vec::with_capacity(alloc, values.len()) else {
+        return Err(AllocError);
+    };
     for value in values {
         let Ok(copy) = value.copy() else {
             return Err(AllocError);

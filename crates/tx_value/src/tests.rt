@@ -563,6 +563,7 @@ fn styles_are_set_and_copied(rt: HostRuntime) -> Result<(), Fail> {
 }
 
 #[test]
-fn values_are_small(_rt: HostRuntime) -> Result<(), Fail> {
-    expect(size_of::<Value>() == 80, "80 bytes")
+fn styles_have_a_size(_rt: HostRuntime) -> Result<(), Fail> {
+    expect(size_of::<Value>() == 80, "a value")?;
+    expect(size_of::<Style>() == 24, "a style beside its values")
 }
