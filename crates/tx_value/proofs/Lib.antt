@@ -10,3 +10,4 @@ pub mod Passing
 pub mod Sorts
 pub mod Held
 pub mod StyleLemmas
+pub mod ShortNumbers

@@ -1,8 +1,6 @@
 -- What each sort of values gives passes the test of that sort.
-use Rattle.std.proofs.Common.{◌≡◌, ℕ, zero, suc, ℤ, pos, neg_ℤ, Bool, true, false, not, ◌&&◌, nat_eq, nat_le, List, [], ◌∷◌, map, drop, Option, Some, None, option_map, cond, refl, ap, arith}
-use Rattle.std.specs.Prelude.{int_lt}
-use Rattle.std.proofs.lemmas.Bool.Decides.{nat_tests}
-use Rattle.tx_frac.specs.Ratio.{lowest}
+use Rattle.std.proofs.Common.{◌≡◌, ℕ, zero, suc, ℤ, pos, neg_ℤ, Bool, true, false, not, ◌&&◌, nat_eq, nat_le, List, [], ◌∷◌, map, drop, Option, Some, None, option_map, cond, refl, ap}
+use Rattle.std.specs.Prelude.{unsigned_abs}
 use Rattle.tx_frac.specs.declared.scalars.Scalar.{Scalar}
 use Rattle.tx_frac.specs.declared.scalars.Unit.{Unit}
 use Rattle.tx_geom.specs.declared.choices.BorderKind.{BorderKind}
@@ -22,6 +20,7 @@ use Rattle.tx_value.specs.declared.value.Value.TheVariants as value
 use Rattle.tx_value.specs.declared.value.Word.{Word}
 use Rattle.tx_value.specs.declared.value.Word.TheVariants.{Nothing}
 use Rattle.tx_value.specs.declared.tables.TheConstants.{UNITS, AUTOS, NOTHINGS, TRANSPARENT, RGB}
+use Rattle.tx_value.proofs.ShortNumbers.{not_below, AreDigits, numeral_digits, short_amount}
 use Rattle.tx_value.proofs.Passing.{passes, both_true, first_true, second_true, through, weaker, all_pass, one_of_two, checked, of_alone, of_entry, of_some}
 
 -- ---- keywords
@@ -53,10 +52,6 @@ whole_token least most t = checked (holds.is_within least most) (is_number_kind 
 
 pub whole : (least most : ℕ) (ts : List Lexeme) → passes (holds.is_whole least most) (values.whole least most ts) ≡ true
 whole least most ts = through (holds.is_whole least most) (λ n. value.Whole n) (values.alone (whole_of_token least most) ts) (of_alone (holds.is_within least most) (whole_of_token least most) ts (whole_token least most))
-
--- a whole number isn't below 0
-not_below : (n : ℕ) → not (int_lt (pos n) (pos 0)) ≡ true
-not_below n = grind (arith, nat_tests)
 
 part_of : (n : ℕ) → nat_le n 9999 ≡ true → holds.is_offset_part (neg_ℤ (pos n)) ≡ true
 part_of zero h = refl
@@ -108,26 +103,30 @@ grid_size (c ∷ r ∷ t ∷ ts) = refl
 
 -- ---- sizes
 
-positive : (n d : ℕ) (unit : Unit) → holds.is_positive (record { value = lowest (pos n) d; unit = unit }) ≡ true
-unfolding lowest
-positive n d unit = not_below _
-
 not_auto : (name : List ℕ) → passes (λ u. not (holds.is_auto u)) (unit_of name) ≡ true
 unfolding unit_of
 not_auto name = of_entry (λ u. not (holds.is_auto u)) (map (λ row. (row.0.now, row.1)) UNITS) name refl
 
-sized_passes : (n : Numeral) (o : Option Unit) → passes (λ u. not (holds.is_auto u)) o ≡ true → passes holds.is_track (sized n o) ≡ true
-sized_passes n None h = refl
-sized_passes n (Some unit) h = checked holds.is_track (has_digits n.whole n.decimals) _ (λ some. both_true _ (not (holds.is_auto unit)) (positive _ _ unit) h)
+sized_passes : (n : Numeral) → AreDigits n → (o : Option Unit) → passes (λ u. not (holds.is_auto u)) o ≡ true → passes holds.is_track (sized n o) ≡ true
+sized_passes n are None h = refl
+sized_passes n are (Some unit) h = checked holds.is_track (has_digits n.whole n.decimals) _ (λ few. both_true _ (not (holds.is_auto unit)) (short_amount n are few) h)
 
 track : (t : Lexeme) → passes holds.is_track (scalar_of t) ≡ true
 unfolding scalar_of
-track t = checked holds.is_track (is_number_kind t.kind) _ (λ h. sized_passes (numeral_of t.bytes) (unit_of (numeral_of t.bytes).unit) (not_auto (numeral_of t.bytes).unit))
+track t = checked holds.is_track (is_number_kind t.kind) _ (λ h. sized_passes (numeral_of t.bytes) (numeral_digits t.bytes) (unit_of (numeral_of t.bytes).unit) (not_auto (numeral_of t.bytes).unit))
+
+-- what isn't `auto` has a number
+sized_track : (s : Scalar) → holds.is_track s ≡ true → holds.is_sized s ≡ true
+sized_track s h = of (holds.is_auto s.unit) (second_true (holds.is_short s.value) _ h) (first_true (holds.is_short s.value) _ h)
+  where
+    of : (auto : Bool) → not auto ≡ true → holds.is_short s.value ≡ true → cond auto (nat_eq (unsigned_abs s.value.num) 0) (holds.is_short s.value) ≡ true
+    of true no_auto short = absurd (let clash : false ≡ true = no_auto in cc)
+    of false no_auto short = short
 
 pub size : (ts : List Lexeme) → passes holds.is_size (values.size ts) ≡ true
 size ts =
-    through holds.is_size (λ s. value.Size s) (values.alone size_of ts) (of_alone holds.is_positive size_of ts (λ t.
-    one_of_two holds.is_positive (is_one_of AUTOS t) (Some auto) (scalar_of t) refl (weaker holds.is_track holds.is_positive (scalar_of t) (λ s h. first_true (holds.is_positive s) _ h) (track t))))
+    through holds.is_size (λ s. value.Size s) (values.alone size_of ts) (of_alone holds.is_sized size_of ts (λ t.
+    one_of_two holds.is_sized (is_one_of AUTOS t) (Some auto) (scalar_of t) refl (weaker holds.is_track holds.is_sized (scalar_of t) sized_track (track t))))
 
 unshared : (o : Option Scalar) → passes holds.is_track o ≡ true → passes (λ s. holds.is_track s && not (is_share s.unit)) (unless_share o) ≡ true
 unshared None h = refl

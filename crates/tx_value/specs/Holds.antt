@@ -1,6 +1,7 @@
 -- What the table of properties gives each property.
-use Rattle.std.specs.Prelude.{ℕ, ℤ, unsigned_abs, pos, Bool, true, false, not, ◌&&◌, nat_le, int_lt, IsTrue, List, [], ◌∷◌, length, Option, Some, None}
+use Rattle.std.specs.Prelude.{ℕ, ◌*◌, ◌%◌, ◌^◌, ◌==◌, ℤ, unsigned_abs, pos, nat_lt, if◌then◌else◌, Bool, true, false, not, ◌&&◌, nat_le, int_lt, IsTrue, List, [], ◌∷◌, length, Option, Some, None}
 use Rattle.std.specs.List.{list_all}
+use Rattle.tx_frac.specs.Ratio.{Ratio}
 use Rattle.tx_frac.specs.declared.scalars.Scalar.{Scalar}
 use Rattle.tx_frac.specs.declared.scalars.Unit.{Unit}
 use Rattle.tx_frac.specs.declared.scalars.Unit.TheVariants.{Auto}
@@ -23,22 +24,26 @@ abbrev pub is_word : List Word → Value → Bool
 is_word choices (value.Word w) = among choices w
 is_word choices _ = false
 
--- not below 0
-abbrev pub is_positive : Scalar → Bool
-is_positive s = not (int_lt s.value.num (pos 0))
+-- a number that is written with at most 9 digits before its point and 18 behind it: not below 0, below 10^9, and a whole
+-- number of parts of which 10^18 are one
+unfoldable pub is_short : Ratio → Bool
+is_short x = not (int_lt x.num (pos 0)) && (nat_lt (unsigned_abs x.num) (10 ^ 9 * x.den) && 10 ^ 18 % x.den == 0)
 
 abbrev pub is_auto : Unit → Bool
 is_auto Auto = true
 is_auto _ = false
 
--- a size, `auto` or not
+-- a size; `auto` has no number
+abbrev pub is_sized : Scalar → Bool
+is_sized s = if is_auto s.unit then unsigned_abs s.value.num == 0 else is_short s.value
+
 abbrev pub is_size : Value → Bool
-is_size (value.Size s) = is_positive s
+is_size (value.Size s) = is_sized s
 is_size _ = false
 
 -- a size without `auto`
 abbrev pub is_track : Scalar → Bool
-is_track s = is_positive s && not (is_auto s.unit)
+is_track s = is_short s.value && not (is_auto s.unit)
 
 -- `none`, or a size without `fr` and `auto`
 abbrev pub is_limit : Value → Bool

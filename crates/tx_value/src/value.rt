@@ -121,7 +121,7 @@ pub enum Value {
     Ink(Ink),
     /// The marks of a text.
     Marks(Marks),
-    /// The value that the row has without any declaration for the property.
+    /// What the default sheet gives the row for the property, or else the property's initial value.
     Initial,
 }
 
