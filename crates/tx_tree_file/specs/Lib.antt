@@ -1,1 +1,6 @@
 pub mod Spelling
+pub mod TreeFile
+pub mod Indent
+pub mod FirstFault
+pub mod Parts
+pub mod TreeReading

@@ -57,11 +57,15 @@ abbrev pub inline_part : List ℕ → List ℕ
 inline_part [] = []
 inline_part (byte ∷ bytes) = codes " {" ++ (byte ∷ bytes) ++ codes "}"
 
--- the line of a row: its kind and those parts that it has, in this order
+-- a row: its kind and those parts that it has, in this order
+abbrev pub row_text : Row → List ℕ
+row_text row =
+    kind_name row.kind ++ (id_part row.id ++ (class_parts row.classes.names ++ (disabled_part row.disabled
+    ++ (private_part row.private ++ (text_part row.text ++ inline_part row.inline)))))
+
+-- the line of a row
 abbrev pub row_line : Row → List ℕ
-row_line row =
-    indent row.depth ++ kind_name row.kind ++ id_part row.id ++ class_parts row.classes.names ++ disabled_part row.disabled
-    ++ private_part row.private ++ text_part row.text ++ inline_part row.inline ++ codes "\n"
+row_line row = indent row.depth ++ (row_text row ++ codes "\n")
 
 -- ---- bindings
 
@@ -104,10 +108,12 @@ abbrev pub priority_part : Bool → List ℕ
 priority_part true = codes "priority "
 priority_part false = []
 
+abbrev pub bind_text : Bind → List ℕ
+bind_text bind = codes "bind " ++ (priority_part bind.priority ++ (key_name bind.key ++ (codes " " ++ action_name bind.action)))
+
 -- the line of a binding, which stands one deeper than its row
 abbrev pub bind_line : ℕ → Bind → List ℕ
-bind_line depth bind =
-    indent (depth + 1) ++ codes "bind " ++ priority_part bind.priority ++ key_name bind.key ++ codes " " ++ action_name bind.action ++ codes "\n"
+bind_line depth bind = indent (depth + 1) ++ (bind_text bind ++ codes "\n")
 
 -- ---- the whole
 

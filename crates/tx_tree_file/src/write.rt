@@ -27,6 +27,7 @@ fn push_row_line(out: &mut Vec<u8>, row: &Row) -> Result<(), AllocError>
 }
 
 /// A binding of a row of this depth.
+#[tactic(auto, using(crate::proofs::Appends::bind_parts))]
 fn push_bind_line(out: &mut Vec<u8>, depth: u32, bind: &Bind) -> Result<(), AllocError>
     ensures { OnOk result (out.new.items ≡ out.old.items ++ bind_line depth bind.now) }
 {

@@ -1,0 +1,161 @@
+-- Reading a tree file, line by line.
+use Rattle.std.specs.Prelude.{◌≡◌, ℕ, ◌+◌, ◌/◌, ◌==◌, ◌&&◌, Bool, true, false, not, nat_lt, if◌then◌else◌, List, [], ◌∷◌, ◌++◌, length, Option, Some, None, option_and_then, Result, Ok, Err, codes}
+use Rattle.std.specs.Str.{is_utf8}
+use Rattle.tx_read.specs.Pieces.{pieces, behind}
+use Rattle.tx_tree.specs.Kind.{is_screen}
+use Rattle.tx_tree.specs.Mount.{is_taken}
+use Rattle.tx_tree.specs.Row.{placed}
+use Rattle.tx_tree.specs.TreeValue.{TreeValue}
+use Rattle.tx_tree.specs.declared.bind.Bind.{Bind}
+use Rattle.tx_tree.specs.declared.fault.TreeFault.{TreeFault}
+use Rattle.tx_tree.specs.declared.fault.TreeFault.TheVariants.{Grammar, NoMemory}
+use Rattle.tx_tree.specs.declared.fault.TreeKind.{TreeKind}
+use Rattle.tx_tree.specs.declared.fault.TreeKind.TheVariants.{BadByte, BadIndent, TooDeep, Expected, Leaf, TooMany, DuplicateId}
+use Rattle.tx_tree.specs.declared.row.NewRow.{NewRow}
+use Rattle.tx_tree.specs.declared.row.Row.{Row}
+use Rattle.tx_tree_file.specs.FirstFault.{is_held}
+use Rattle.tx_tree_file.specs.Indent.{blanks, past_blanks, is_bind_line, may_stand}
+use Rattle.tx_tree_file.specs.Parts.{word, past_word, flag, kind_of, id_of, classes_of, private_of, text_of, inline_of, key_of, action_of}
+use Rattle.tx_tree_file.specs.TreeFile.{kept}
+
+-- ---- one line
+
+-- one reader behind another
+infixl 10 ◌>>=◌
+abbrev pub ◌>>=◌ : {A B : Type 0} → Option A → (A → Option B) → Option B
+(Some x) >>= f = f x
+None >>= f = None
+
+-- a row, without its bindings
+abbrev pub row_of : List ℕ → Option NewRow
+row_of bytes =
+    kind_of (word bytes) >>= (λ kind.
+    id_of (past_word bytes) >>= (λ id.
+    classes_of id.1 >>= (λ classes.
+    private_of kind (flag (codes " disabled") classes.1).1 >>= (λ private.
+    text_of private.1 >>= (λ text.
+    inline_of text.1 >>= (λ inline.
+    Some (record {
+      kind = kind;
+      id = id.0;
+      classes = classes.0;
+      disabled = (flag (codes " disabled") classes.1).0;
+      text = text.0;
+      inline = inline;
+      binds = [];
+      private = kept kind (length text.0) private.0;
+    })))))))
+
+-- a binding behind `bind `
+abbrev pub bind_by : Bool × List ℕ → Option Bind
+bind_by priority =
+    key_of (word priority.1) >>= (λ key.
+    behind (codes " ") (past_word priority.1) >>= (λ rest.
+    action_of rest >>= (λ action.
+    Some (record { key = key; action = action; priority = priority.0 }))))
+
+abbrev pub bind_of : List ℕ → Option Bind
+bind_of bytes = behind (codes "bind ") bytes >>= (λ rest. bind_by (flag (codes "priority ") rest))
+
+-- ---- the lines, one behind another
+
+-- the rows so far, of which the last one may get further bindings
+pub record Begun : Type 0 where
+  pub before : List Row
+  pub last : Row
+
+abbrev pub rows_so_far : Begun → List Row
+rows_so_far begun = begun.before ++ begun.last ∷ []
+
+-- the Screen, in the first line
+abbrev pub first_by : Option NewRow → Result Begun TreeKind
+first_by None = Err Expected
+first_by (Some new) = if is_screen new.kind then Ok (record { before = []; last = placed new 1 0 }) else Err Expected
+
+abbrev pub first_line : List ℕ → Bool → Result Begun TreeKind
+first_line line ended =
+    if not (is_utf8 line) then Err BadByte
+    else if not (blanks line == 0) then Err BadIndent
+    else if not ended then Err Expected
+    else first_by (row_of line)
+
+-- a binding more of the last row
+abbrev pub with_bind : Begun → Option Bind → Result Begun TreeKind
+with_bind begun None = Err Expected
+with_bind begun (Some bind) = Ok (record begun { last = record begun.last { binds = begun.last.binds ++ bind ∷ [] } })
+
+-- a row more at a depth
+abbrev pub with_new : List Row → ℕ → NewRow → Result Begun TreeKind
+with_new rows depth new =
+    if is_screen new.kind then Err Expected
+    else if not (is_held depth rows) then Err Leaf
+    else if length rows == 65536 then Err TooMany
+    else if is_taken new.id rows then Err DuplicateId
+    else Ok (record { before = rows; last = placed new (length rows + 1) depth })
+
+abbrev pub with_row : Begun → ℕ → Option NewRow → Result Begun TreeKind
+with_row begun depth None = Err Expected
+with_row begun depth (Some new) = with_new (rows_so_far begun) depth new
+
+-- a line with its indent
+abbrev pub bind_here : Begun → List ℕ → Bool → Result Begun TreeKind
+bind_here begun line ended = if not ended then Err Expected else with_bind begun (bind_of (past_blanks line))
+
+abbrev pub row_here : Begun → List ℕ → Bool → Result Begun TreeKind
+row_here begun line ended =
+    if blanks line == 128 then Err TooDeep
+    else if not ended then Err Expected
+    else with_row begun (blanks line / 2) (row_of (past_blanks line))
+
+abbrev pub next_line : Begun → List ℕ → Bool → Result Begun TreeKind
+next_line begun line ended =
+    if not (is_utf8 line) then Err BadByte
+    else if not (may_stand begun.last.depth (is_bind_line line) (blanks line)) then Err BadIndent
+    else if is_bind_line line then bind_here begun line ended
+    else row_here begun line ended
+
+-- which line is at fault, from 1 on, and what for
+pub record LineFault : Type 0 where
+  pub line : ℕ
+  pub kind : TreeKind
+
+-- what was read of a line, and then the lines behind it, or its fault
+abbrev pub or_fault : ℕ → Result Begun TreeKind → (Begun → Result (List Row) LineFault) → Result (List Row) LineFault
+or_fault number (Ok begun) more = more begun
+or_fault number (Err kind) more = Err (record { line = number; kind = kind })
+
+abbrev pub is_empty : {A : Type 0} → List A → Bool
+is_empty [] = true
+is_empty (x ∷ xs) = false
+
+-- the rows of the lines behind so many; the last one is what stands behind the last line feed
+abbrev pub rows_behind : List (List ℕ) → ℕ → Begun → Result (List Row) LineFault
+rows_behind [] done begun = Ok (rows_so_far begun)
+rows_behind (line ∷ lines) done begun =
+    if is_empty lines && is_empty line then Ok (rows_so_far begun)
+    else or_fault (done + 1) (next_line begun line (not (is_empty lines))) (rows_behind lines (done + 1))
+
+abbrev pub rows_of_lines : List (List ℕ) → Result (List Row) LineFault
+rows_of_lines [] = Err (record { line = 1; kind = Expected })
+rows_of_lines (line ∷ lines) = or_fault 1 (first_line line (not (is_empty lines))) (rows_behind lines 1)
+
+-- the rows that a file holds, or the first line that breaks a rule and the first rule that it breaks
+abbrev pub tree_of : List ℕ → Result (List Row) LineFault
+tree_of bytes = rows_of_lines (pieces 10 bytes)
+
+-- ---- answers of a call, want of memory aside
+
+abbrev pub FaultIs : Result (List Row) LineFault → TreeFault → Type 0
+FaultIs read (Grammar line kind) = read ≡ Err (record { line = line; kind = kind })
+FaultIs read NoMemory = Unit {0}
+FaultIs read fault = ⊥
+
+-- the call gives the tree of these rows, of which all nodes were made, or this fault
+abbrev pub Reads : Result (List Row) LineFault → Result TreeValue TreeFault → Type 0
+Reads read (Ok tree) = (read ≡ Ok tree.rows) × (tree.made ≡ length tree.rows)
+Reads read (Err fault) = FaultIs read fault
+
+-- the call gives these rows
+abbrev pub GivesRows : List Row → Result TreeValue TreeFault → Type 0
+GivesRows rows (Ok tree) = tree.rows ≡ rows
+GivesRows rows (Err fault) = fault ≡ NoMemory
