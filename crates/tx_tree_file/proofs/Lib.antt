@@ -1,2 +1,11 @@
 pub mod Appends
 pub mod Written
+pub mod Utf8Lemmas
+pub mod CharLemmas
+pub mod Repeats
+pub mod Fronts
+pub mod ClassLoop
+pub mod FoundParts
+pub mod FoundLines
+pub mod LastRows
+pub mod Growing

@@ -18,9 +18,13 @@ ends_word None = false
 ends_word (Some []) = true
 ends_word (Some (byte ∷ bytes)) = byte == 32
 
+-- whether the first word is `bind`
+abbrev pub starts_bind : List ℕ → Bool
+starts_bind text = ends_word (behind (codes "bind") text)
+
 -- whether the first word of a line is `bind`
 abbrev pub is_bind_line : List ℕ → Bool
-is_bind_line line = ends_word (behind (codes "bind") (past_blanks line))
+is_bind_line line = starts_bind (past_blanks line)
 
 -- whether so many blanks may stand before a line behind a last row of this depth: a binding stands one step below it,
 -- and a row at any depth from 1 to that

@@ -4,3 +4,4 @@ pub mod Indent
 pub mod FirstFault
 pub mod Parts
 pub mod TreeReading
+pub mod Sections

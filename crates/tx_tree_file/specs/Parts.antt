@@ -1,6 +1,6 @@
 -- Reading the parts of a line. Each reader gives a value and the bytes behind it, or nothing where the bytes are none
 -- that may stand there.
-use Rattle.std.specs.Prelude.{ℕ, zero, suc, ◌==◌, ◌&&◌, ◌||◌, Bool, true, false, not, nat_le, if◌then◌else◌, List, [], ◌∷◌, length, Option, Some, None, option_map, option_and_then, find, codes, decimal, chars, bytes_eq}
+use Rattle.std.specs.Prelude.{ℕ, zero, suc, ◌-◌, ◌==◌, ◌&&◌, ◌||◌, Bool, true, false, not, nat_le, if◌then◌else◌, List, [], ◌∷◌, length, take, drop, Option, Some, None, option_map, option_and_then, find, codes, decimal, chars, bytes_eq}
 use Rattle.std.specs.Str.{is_utf8}
 use Rattle.tx_read.specs.Number.{number_at_most}
 use Rattle.tx_read.specs.Pieces.{behind}
@@ -52,7 +52,7 @@ or_handed name (Some kind) = Some kind
 or_handed name None = if is_name name && begins_capital name then Some (Handed name) else None
 
 abbrev pub kind_of : List ℕ → Option Kind
-kind_of name = or_handed name (find (λ kind. bytes_eq name (kind_name kind)) built_in)
+kind_of name = if is_utf8 name then or_handed name (find (λ kind. bytes_eq name (kind_name kind)) built_in) else None
 
 -- `#id`, where it stands there
 abbrev pub id_by : Option (List ℕ) → List ℕ → Option (Option (List ℕ) × List ℕ)
@@ -98,32 +98,37 @@ private_of Checkbox bytes = box_by (flag (codes " on") bytes)
 private_of ProgressBar bytes = bar_by (behind (codes " total ") bytes) bytes
 private_of kind bytes = Some (Plain, bytes)
 
--- a byte before what was read
-abbrev pub put_front : ℕ → Option (List ℕ × List ℕ) → Option (List ℕ × List ℕ)
-put_front byte found = option_map (λ f. (byte ∷ f.0, f.1)) found
+-- what a byte behind a backslash stands for
+abbrev pub unescaped : ℕ → Option ℕ
+unescaped byte = if byte == 34 then Some 34 else if byte == 92 then Some 92 else if byte == 110 then Some 10 else None
+
+-- whether a byte stands for itself
+abbrev pub is_plain : ℕ → Bool
+is_plain byte = byte_is_spelled byte && not (byte == 10)
+
+-- a byte, where there is one, before what is read then
+abbrev pub put_front : Option ℕ → Option (List ℕ × List ℕ) → Option (List ℕ × List ℕ)
+put_front None found = None
+put_front (Some byte) found = option_map (λ f. (byte ∷ f.0, f.1)) found
 
 -- The text up to the closing quote, and the bytes behind that. The truth value says that a backslash stands before.
 abbrev pub quoted : Bool → List ℕ → Option (List ℕ × List ℕ)
 quoted escape [] = None
-quoted true (byte ∷ bytes) =
-    if byte == 34 then put_front 34 (quoted false bytes)
-    else if byte == 92 then put_front 92 (quoted false bytes)
-    else if byte == 110 then put_front 10 (quoted false bytes)
-    else None
+quoted true (byte ∷ bytes) = put_front (unescaped byte) (quoted false bytes)
 quoted false (byte ∷ bytes) =
     if byte == 34 then Some ([], bytes)
     else if byte == 92 then quoted true bytes
-    else if byte == 10 then None
-    else if byte_is_spelled byte then put_front byte (quoted false bytes)
+    else if is_plain byte then put_front (Some byte) (quoted false bytes)
     else None
 
--- UTF-8, and some of it
-abbrev pub is_some_text : List ℕ → Bool
-is_some_text text = is_utf8 text && not (length text == 0)
+-- the bytes as a text, where they are UTF-8 and there are some
+abbrev pub some_text : List ℕ → Option (List ℕ)
+some_text text = if is_utf8 text && not (length text == 0) then Some text else None
 
 abbrev pub text_by : Option (List ℕ) → List ℕ → Option (List ℕ × List ℕ)
 text_by None bytes = Some ([], bytes)
-text_by (Some rest) bytes = option_and_then (λ found. if is_some_text found.0 then Some found else None) (quoted false rest)
+text_by (Some rest) bytes =
+    option_and_then (λ found. option_map (λ text. (text, found.1)) (some_text found.0)) (quoted false rest)
 
 -- the text in quotes, where it stands there
 abbrev pub text_of : List ℕ → Option (List ℕ × List ℕ)
@@ -131,14 +136,13 @@ text_of bytes = text_by (behind (codes " \"") bytes) bytes
 
 -- what stands before a closing brace at the end
 abbrev pub before_brace : List ℕ → Option (List ℕ)
-before_brace [] = None
-before_brace (byte ∷ []) = if byte == 125 then Some [] else None
-before_brace (byte ∷ next ∷ bytes) = option_map (λ front. byte ∷ front) (before_brace (next ∷ bytes))
+before_brace bytes =
+    if bytes_eq (drop (length bytes - 1) bytes) (codes "}") then Some (take (length bytes - 1) bytes) else None
 
 -- the inline text in braces, where it stands there, and nothing else
 abbrev pub inline_by : Option (List ℕ) → List ℕ → Option (List ℕ)
 inline_by None bytes = if length bytes == 0 then Some [] else None
-inline_by (Some rest) bytes = option_and_then (λ text. if is_some_text text then Some text else None) (before_brace rest)
+inline_by (Some rest) bytes = option_and_then some_text (before_brace rest)
 
 abbrev pub inline_of : List ℕ → Option (List ℕ)
 inline_of bytes = inline_by (behind (codes " {") bytes) bytes
@@ -149,34 +153,46 @@ inline_of bytes = inline_by (behind (codes " {") bytes) bytes
 abbrev pub named_keys : List Key
 named_keys = Char 32 ∷ Enter ∷ Escape ∷ Tab ∷ ShiftTab ∷ Backspace ∷ Delete ∷ Up ∷ Down ∷ Left ∷ Right ∷ Home ∷ End ∷ PageUp ∷ PageDown ∷ []
 
--- a key that has a spelling, and is written so
-abbrev pub checked : List ℕ → Key → Option Key
-checked name key = if key_is_spelled key && bytes_eq (key_name key) name then Some key else None
+-- the number of a function key, as it is written
+abbrev pub function_by : List ℕ → ℕ → Option Key
+function_by digits n = if bytes_eq (decimal n) digits && nat_le 1 n then Some (Function n) else None
 
 -- `f1` to `f12`
-abbrev pub function_of : List ℕ → Option Key
-function_of name = option_and_then (λ digits. option_and_then (λ n. checked name (Function n)) (number_at_most 12 digits)) (behind (codes "f") name)
+abbrev pub function_of : Option (List ℕ) → Option Key
+function_of None = None
+function_of (Some digits) = option_and_then (function_by digits) (number_at_most 12 digits)
 
 -- `ctrl+a` to `ctrl+z`
-abbrev pub letter_of : List ℕ → List ℕ → Option Key
-letter_of name (letter ∷ []) = checked name (Ctrl letter)
-letter_of name letters = None
-
-abbrev pub control_of : List ℕ → Option Key
-control_of name = option_and_then (letter_of name) (behind (codes "ctrl+") name)
+abbrev pub control_of : Option (List ℕ) → Option Key
+control_of (Some (letter ∷ [])) = if nat_le 97 letter && nat_le letter 122 then Some (Ctrl letter) else None
+control_of letters = None
 
 -- the first key of two that there is
 abbrev pub or_key : Option Key → Option Key → Option Key
 or_key (Some key) other = Some key
 or_key None other = other
 
--- one character, or a name
-abbrev pub key_by : List ℕ → List ℕ → Option Key
-key_by name (c ∷ []) = checked name (Char c)
-key_by name cs = or_key (find (λ key. bytes_eq name (key_name key)) named_keys) (or_key (function_of name) (control_of name))
+-- a name of more than one character
+abbrev pub long_key : List ℕ → Option Key
+long_key name =
+    or_key (find (λ key. bytes_eq name (key_name key)) named_keys)
+    (or_key (function_of (behind (codes "f") name)) (control_of (behind (codes "ctrl+") name)))
+
+-- the character, where there is only one
+abbrev pub only_char : List ℕ → Option ℕ
+only_char (c ∷ []) = Some c
+only_char cs = None
+
+-- a character that is a key, but for the blank
+abbrev pub char_key : ℕ → Option Key
+char_key c = if key_is_spelled (Char c) && not (c == 32) then Some (Char c) else None
+
+abbrev pub key_by : List ℕ → Option ℕ → Option Key
+key_by name (Some c) = char_key c
+key_by name None = long_key name
 
 abbrev pub key_of : List ℕ → Option Key
-key_of name = if is_utf8 name then key_by name (chars name) else None
+key_of name = if is_utf8 name then key_by name (only_char (chars name)) else None
 
 -- the actions without a class
 abbrev pub named_actions : List Action
@@ -187,4 +203,4 @@ or_toggle name (Some action) = Some action
 or_toggle name None = option_and_then (λ class. option_map ToggleClass (name_of class)) (behind (codes "toggle_class ") name)
 
 abbrev pub action_of : List ℕ → Option Action
-action_of name = or_toggle name (find (λ action. bytes_eq name (action_name action)) named_actions)
+action_of name = if is_utf8 name then or_toggle name (find (λ action. bytes_eq name (action_name action)) named_actions) else None

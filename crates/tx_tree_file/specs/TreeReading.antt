@@ -8,11 +8,13 @@ use Rattle.tx_tree.specs.Row.{placed}
 use Rattle.tx_tree.specs.TreeValue.{TreeValue}
 use Rattle.tx_tree.specs.declared.bind.Bind.{Bind}
 use Rattle.tx_tree.specs.declared.fault.TreeFault.{TreeFault}
-use Rattle.tx_tree.specs.declared.fault.TreeFault.TheVariants.{Grammar, NoMemory}
+use Rattle.tx_tree.specs.declared.fault.TreeFault.TheVariants.{Grammar, NoMemory, Leaf as Leaf', TooMany as TooMany', DuplicateId as DuplicateId'}
 use Rattle.tx_tree.specs.declared.fault.TreeKind.{TreeKind}
 use Rattle.tx_tree.specs.declared.fault.TreeKind.TheVariants.{BadByte, BadIndent, TooDeep, Expected, Leaf, TooMany, DuplicateId}
 use Rattle.tx_tree.specs.declared.row.NewRow.{NewRow}
 use Rattle.tx_tree.specs.declared.row.Row.{Row}
+use Rattle.tx_tree_file.specs.declared.line.Item.{Item}
+use Rattle.tx_tree_file.specs.declared.line.Item.TheVariants.{Binding, Widget}
 use Rattle.tx_tree_file.specs.FirstFault.{is_held}
 use Rattle.tx_tree_file.specs.Indent.{blanks, past_blanks, is_bind_line, may_stand}
 use Rattle.tx_tree_file.specs.Parts.{word, past_word, flag, kind_of, id_of, classes_of, private_of, text_of, inline_of, key_of, action_of}
@@ -68,51 +70,68 @@ abbrev pub rows_so_far : Begun → List Row
 rows_so_far begun = begun.before ++ begun.last ∷ []
 
 -- the Screen, in the first line
-abbrev pub first_by : Option NewRow → Result Begun TreeKind
-first_by None = Err Expected
-first_by (Some new) = if is_screen new.kind then Ok (record { before = []; last = placed new 1 0 }) else Err Expected
+abbrev pub screen : Option NewRow → Result NewRow TreeKind
+screen None = Err Expected
+screen (Some new) = if is_screen new.kind then Ok new else Err Expected
 
-abbrev pub first_line : List ℕ → Bool → Result Begun TreeKind
-first_line line ended =
+abbrev pub first_item : List ℕ → Bool → Result NewRow TreeKind
+first_item line ended =
     if not (is_utf8 line) then Err BadByte
     else if not (blanks line == 0) then Err BadIndent
-    else if not ended then Err Expected
-    else first_by (row_of line)
+    else if ended then screen (row_of line)
+    else Err Expected
+
+abbrev pub with_first : Result NewRow TreeKind → Result Begun TreeKind
+with_first (Ok new) = Ok (record { before = []; last = placed new 1 0 })
+with_first (Err kind) = Err kind
+
+abbrev pub first_line : List ℕ → Bool → Result Begun TreeKind
+first_line line ended = with_first (first_item line ended)
+
+-- what a line behind a last row of this depth is
+abbrev pub binding : Option Bind → Result Item TreeKind
+binding None = Err Expected
+binding (Some bind) = Ok (Binding bind)
+
+abbrev pub widget : ℕ → Option NewRow → Result Item TreeKind
+widget depth None = Err Expected
+widget depth (Some new) = if is_screen new.kind then Err Expected else Ok (Widget depth new)
+
+abbrev pub bind_item : List ℕ → Bool → Result Item TreeKind
+bind_item text ended = if ended then binding (bind_of text) else Err Expected
+
+abbrev pub row_item : ℕ → List ℕ → Bool → Result Item TreeKind
+row_item count text ended =
+    if count == 128 then Err TooDeep
+    else if ended then widget (count / 2) (row_of text)
+    else Err Expected
+
+abbrev pub item_of : ℕ → List ℕ → Bool → Result Item TreeKind
+item_of depth line ended =
+    if not (is_utf8 line) then Err BadByte
+    else if not (may_stand depth (is_bind_line line) (blanks line)) then Err BadIndent
+    else if is_bind_line line then bind_item (past_blanks line) ended
+    else row_item (blanks line) (past_blanks line) ended
 
 -- a binding more of the last row
-abbrev pub with_bind : Begun → Option Bind → Result Begun TreeKind
-with_bind begun None = Err Expected
-with_bind begun (Some bind) = Ok (record begun { last = record begun.last { binds = begun.last.binds ++ bind ∷ [] } })
+abbrev pub with_bind : Bind → Row → Row
+with_bind bind row = record row { binds = row.binds ++ bind ∷ [] }
 
--- a row more at a depth
+-- a row more, behind these rows
 abbrev pub with_new : List Row → ℕ → NewRow → Result Begun TreeKind
 with_new rows depth new =
-    if is_screen new.kind then Err Expected
-    else if not (is_held depth rows) then Err Leaf
+    if not (is_held depth rows) then Err Leaf
     else if length rows == 65536 then Err TooMany
     else if is_taken new.id rows then Err DuplicateId
     else Ok (record { before = rows; last = placed new (length rows + 1) depth })
 
-abbrev pub with_row : Begun → ℕ → Option NewRow → Result Begun TreeKind
-with_row begun depth None = Err Expected
-with_row begun depth (Some new) = with_new (rows_so_far begun) depth new
-
--- a line with its indent
-abbrev pub bind_here : Begun → List ℕ → Bool → Result Begun TreeKind
-bind_here begun line ended = if not ended then Err Expected else with_bind begun (bind_of (past_blanks line))
-
-abbrev pub row_here : Begun → List ℕ → Bool → Result Begun TreeKind
-row_here begun line ended =
-    if blanks line == 128 then Err TooDeep
-    else if not ended then Err Expected
-    else with_row begun (blanks line / 2) (row_of (past_blanks line))
+abbrev pub with_item : Begun → Result Item TreeKind → Result Begun TreeKind
+with_item begun (Ok (Binding bind)) = Ok (record begun { last = with_bind bind begun.last })
+with_item begun (Ok (Widget depth new)) = with_new (rows_so_far begun) depth new
+with_item begun (Err kind) = Err kind
 
 abbrev pub next_line : Begun → List ℕ → Bool → Result Begun TreeKind
-next_line begun line ended =
-    if not (is_utf8 line) then Err BadByte
-    else if not (may_stand begun.last.depth (is_bind_line line) (blanks line)) then Err BadIndent
-    else if is_bind_line line then bind_here begun line ended
-    else row_here begun line ended
+next_line begun line ended = with_item begun (item_of begun.last.depth line ended)
 
 -- which line is at fault, from 1 on, and what for
 pub record LineFault : Type 0 where
@@ -145,10 +164,24 @@ tree_of bytes = rows_of_lines (pieces 10 bytes)
 
 -- ---- answers of a call, want of memory aside
 
+-- the fault of a line whose row can't be mounted
+abbrev pub refused : TreeFault → ℕ → TreeFault
+refused Leaf' line = Grammar line Leaf
+refused TooMany' line = Grammar line TooMany
+refused DuplicateId' line = Grammar line DuplicateId
+refused fault line = fault
+
 abbrev pub FaultIs : Result (List Row) LineFault → TreeFault → Type 0
 FaultIs read (Grammar line kind) = read ≡ Err (record { line = line; kind = kind })
 FaultIs read NoMemory = Unit {0}
 FaultIs read fault = ⊥
+
+-- the same of a line with this number
+abbrev pub Tells : {A : Type 0} → ℕ → Result A TreeKind → Result A TreeFault → Type 0
+Tells number read (Ok item) = read ≡ Ok item
+Tells number read (Err (Grammar line kind)) = (line ≡ number) × (read ≡ Err kind)
+Tells number read (Err NoMemory) = Unit {0}
+Tells number read (Err fault) = ⊥
 
 -- the call gives the tree of these rows, of which all nodes were made, or this fault
 abbrev pub Reads : Result (List Row) LineFault → Result TreeValue TreeFault → Type 0

@@ -2,9 +2,14 @@
 #![tactic(auto)]
 
 mod parts;
+mod bind_parts;
+mod line;
 mod read;
+mod row_parts;
+mod section;
 #[cfg(test)]
 mod tests;
+mod words;
 mod write;
 
 pub use read::read_tree;
