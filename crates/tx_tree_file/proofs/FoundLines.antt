@@ -108,7 +108,7 @@ pub record IsRowText (bytes : List ℕ) (new : NewRow) : Type 0 where
   pub alone : new.binds ≡ []
   pub again : new.private ≡ kept new.kind (length new.text) new.private
 
-all-behind : {A : Type 0} (p : A → Bool) (xs ys : List A) → list_all p (xs ++ ys) ≡ true → list_all p ys ≡ true
+pub all-behind : {A : Type 0} (p : A → Bool) (xs ys : List A) → list_all p (xs ++ ys) ≡ true → list_all p ys ≡ true
 all-behind p [] ys h = h
 all-behind p (x ∷ xs) ys h = all-behind p xs ys (and-right (p x) _ h)
 

@@ -55,7 +55,7 @@ above_below depth row (r ∷ below) h =
     let other : (r.depth + 1 == depth + 1) ≡ false = ne_eqb (r.depth + 1) (depth + 1) (λ same. absurd (omega (arith, deeper, same))) in
     ap (λ (b : Bool). last_above (depth + 1) (cond b (Some r) (Some row)) below) other ∙ above_below depth row below (and-right _ _ h)
 
-above_front : (depth : ℕ) (found : Option Row) (front : List Row) (row : Row) (below : List Row) → row.depth ≡ depth → list_all (λ r. nat_lt depth r.depth) below ≡ true
+pub above_front : (depth : ℕ) (found : Option Row) (front : List Row) (row : Row) (below : List Row) → row.depth ≡ depth → list_all (λ r. nat_lt depth r.depth) below ≡ true
     → last_above (depth + 1) found (front ++ (row ∷ below)) ≡ Some row
 above_front depth found [] row below e h =
     let is : (row.depth + 1 == depth + 1) ≡ true = (Decides-eqb (row.depth + 1) (depth + 1)).1 (ap (λ (d : ℕ). d + 1) e) in
@@ -78,7 +78,7 @@ open-mounted rows depth n m new o =
     ∙ sym (append_assoc o.front (o.row ∷ o.below) (placed new m (depth + 1) ∷ []))
     ∙ ap (λ (z : List Row). z ++ placed new m (depth + 1) ∷ []) (sym o.is)
 
-all-snoc : {A : Type 0} (p : A → Bool) (xs : List A) (x : A) → list_all p xs ≡ true → p x ≡ true → list_all p (xs ++ x ∷ []) ≡ true
+pub all-snoc : {A : Type 0} (p : A → Bool) (xs : List A) (x : A) → list_all p xs ≡ true → p x ≡ true → list_all p (xs ++ x ∷ []) ≡ true
 all-snoc p [] x h e = both (p x) true e refl
 all-snoc p (y ∷ xs) x h e = both (p y) (list_all p (xs ++ x ∷ [])) (and-left _ _ h) (all-snoc p xs x (and-right _ _ h) e)
 
@@ -274,3 +274,21 @@ pub refused-here : (rows : List Row) (made depth n line d : ℕ) (new : NewRow) 
 refused-here rows made depth n line d new rest fault told o shallow other size h e f =
     subst₂ (λ (k : ℕ) (t : TreeFault). FaultIs (or_fault line (with_new rows k new) (rows_behind (pieces 10 rest) line)) t) (sym e) (sym f)
     (refused-fault rows made depth n line new fault (rows_behind (pieces 10 rest) line) o shallow other size h)
+
+-- the Screen alone
+pub first_grown : (tree : TreeValue) (row : NewRow) → tree.rows ≡ placed row 1 0 ∷ [] → tree.made ≡ 1 → IsGrown tree (1 ∷ [])
+first_grown tree row is made = record {
+  above = subst (λ (z : List Row). IsPath z (1 ∷ [])) (sym is) (λ k inside. subst (λ (n : ℕ). IsOpen (placed row 1 0 ∷ []) n (slice_index (1 ∷ []) n)) (omega (arith, inside)) (record {
+      front = [];
+      row = placed row 1 0;
+      below = [];
+      is = refl;
+      number = refl;
+      at = refl;
+      new = refl;
+      deeper = refl;
+    }));
+  some = omega arith;
+  made = made ∙ sym (ap length is);
+  numbers = subst₂ (λ (k : ℕ) (z : List Row). list_all (λ r. nat_le r.node.0 k) z ≡ true) (sym made) (sym is) refl;
+}

@@ -98,11 +98,11 @@ last_fault_read left done before last kind filled cut is =
 
 -- ---- what a line can be
 
-ifs : {A F : Type 0} (b : Bool) (x : Result A F) (f : F) (y : A) → cond b (Err f) x ≡ Ok y → (b ≡ false) × (x ≡ Ok y)
+pub ifs : {A F : Type 0} (b : Bool) (x : Result A F) (f : F) (y : A) → cond b (Err f) x ≡ Ok y → (b ≡ false) × (x ≡ Ok y)
 ifs true x f y h = err-ok h
 ifs false x f y h = (refl, h)
 
-ended-inv : {A F : Type 0} (b : Bool) (x : Result A F) (f : F) (y : A) → cond b x (Err f) ≡ Ok y → (b ≡ true) × (x ≡ Ok y)
+pub ended-inv : {A F : Type 0} (b : Bool) (x : Result A F) (f : F) (y : A) → cond b x (Err f) ≡ Ok y → (b ≡ true) × (x ≡ Ok y)
 ended-inv true x f y h = (refl, h)
 ended-inv false x f y h = err-ok h
 
@@ -173,7 +173,7 @@ row_item-inv depth line ended d new h =
         record { utf8 = utf8; no_bind = e; even = even; least = least; most = most; few = few; row = subst (λ (z : NewRow). row_of (past_blanks line) ≡ Some z) that row;
           other = subst (λ (z : NewRow). is_screen z.kind ≡ false) that other; half = half }
 
-other_than : (a b : ℕ) → (a == b) ≡ false → a ≢ b
+pub other_than : (a b : ℕ) → (a == b) ≡ false → a ≢ b
 other_than a b e same = absurd (false≢true (sym e ∙ (Decides-eqb a b).1 same))
 
 pub widget-read : (depth : ℕ) (line : List ℕ) (ended : Bool) (d : ℕ) (new : NewRow) → depth ≤ 63 → item_of depth line ended ≡ Ok (Widget d new) → IsWidget depth d new

@@ -9,3 +9,4 @@ pub mod FoundParts
 pub mod FoundLines
 pub mod LastRows
 pub mod Growing
+pub mod Whole

@@ -20,10 +20,10 @@ use Rattle.tx_tree_file.specs.TreeFile.{is_typed, bind_is_typed, read_again}
 
 -- ---- the lines before the faulty one
 
--- no id stands twice
-abbrev pub ids_differ : List Row → Bool
-ids_differ [] = true
-ids_differ (row ∷ rows) = not (is_taken row.id rows) && ids_differ rows
+-- no row has the id of an earlier one
+abbrev pub ids_differ : List Row → List Row → Bool
+ids_differ before [] = true
+ids_differ before (row ∷ rows) = not (is_taken row.id before) && ids_differ (before ++ row ∷ []) rows
 
 -- rows that are a tree's, or none at all
 abbrev pub IsPreorderOrNone : List Row → Type 0
@@ -36,7 +36,7 @@ pub record IsBegun (rows : List Row) : Type 0 where
   pub typed : list_all is_typed rows ≡ true
   pub spelled : list_all is_spelled rows ≡ true
   pub fresh : rows ≡ read_again 1 rows
-  pub ids : ids_differ rows ≡ true
+  pub ids : ids_differ [] rows ≡ true
   pub few : length rows ≤ 65536
 
 -- the last row
