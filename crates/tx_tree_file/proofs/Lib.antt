@@ -10,3 +10,4 @@ pub mod FoundLines
 pub mod LastRows
 pub mod Growing
 pub mod Whole
+pub mod AgainParts

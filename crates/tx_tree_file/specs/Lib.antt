@@ -5,3 +5,4 @@ pub mod FirstFault
 pub mod Parts
 pub mod TreeReading
 pub mod Sections
+pub mod Laws

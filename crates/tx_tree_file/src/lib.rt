@@ -3,6 +3,7 @@
 
 mod parts;
 mod bind_parts;
+pub mod laws;
 mod line;
 mod read;
 mod row_parts;
