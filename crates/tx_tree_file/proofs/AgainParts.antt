@@ -44,7 +44,7 @@ Later k [] = Unit {0}
 Later k (b ∷ []) = ⊥
 Later k (b ∷ c ∷ bytes) = (b ≡ 32) × (k ≤ order c)
 
-weaken : (j k : ℕ) (bytes : List ℕ) → j ≤ k → Later k bytes → Later j bytes
+pub weaken : (j k : ℕ) (bytes : List ℕ) → j ≤ k → Later k bytes → Later j bytes
 weaken j k [] h l = tt
 weaken j k (b ∷ []) h l = absurd l
 weaken j k (b ∷ c ∷ bytes) h l = let m = l.1 in (l.0, omega (arith, h, m))
@@ -68,7 +68,7 @@ abbrev pub Stops : List ℕ → Type 0
 Stops [] = Unit {0}
 Stops (b ∷ bytes) = b ≡ 32
 
-later-stops : (k : ℕ) (bytes : List ℕ) → Later k bytes → Stops bytes
+pub later-stops : (k : ℕ) (bytes : List ℕ) → Later k bytes → Stops bytes
 later-stops k [] l = tt
 later-stops k (b ∷ []) l = absurd l
 later-stops k (b ∷ c ∷ bytes) l = l.0
@@ -101,7 +101,7 @@ pub name-no_blank : (name : List ℕ) → is_name name ≡ true → list_all no_
 name-no_blank [] h = refl
 name-no_blank (b ∷ bytes) h = both (no_blank b) (list_all no_blank bytes) (begins-no_blank b (and-left _ _ h)) (all_continue-no_blank bytes (and-right _ _ (and-right (begins_name b) _ h)))
 
-named : (name : List ℕ) → is_name name ≡ true → name_of name ≡ Some name
+pub named : (name : List ℕ) → is_name name ≡ true → name_of name ≡ Some name
 named name h = rw h refl
 
 -- ---- id and classes
@@ -199,7 +199,7 @@ a_digit n h = both _ _ (le-leb 48 (48 + n) (omega arith)) (le-leb (48 + n) 57 (o
 abbrev AreDigits : ℕ → List ℕ → Type 0
 AreDigits n ds = (list_all is_ascii_digit ds ≡ true) × (value ds ≡ n)
 
-decimal-digits : (n : ℕ) → n < 2 ^ 64 → AreDigits n (decimal n)
+pub decimal-digits : (n : ℕ) → n < 2 ^ 64 → AreDigits n (decimal n)
 decimal-digits n h = decimal_by_steps AreDigits
   (λ n h. (both _ true (a_digit n h) refl, omega arith))
   (λ n ds h m.
@@ -225,7 +225,7 @@ digits-no_blank (d ∷ ds) h = both (no_blank d) (list_all no_blank ds) (digit-n
 pub decimal-no_blank : (n : ℕ) → n < 2 ^ 64 → list_all no_blank (decimal n) ≡ true
 decimal-no_blank n h = digits-no_blank (decimal n) (decimal-digits n h).0
 
-same-bytes : (xs : List ℕ) → bytes_eq xs xs ≡ true
+pub same-bytes : (xs : List ℕ) → bytes_eq xs xs ≡ true
 same-bytes xs = (bytes_eq-Decides xs xs).1 refl
 
 total-again : (n : ℕ) → nat_le 1 n ≡ true → nat_le n 1000000 ≡ true → (n == 100) ≡ false → total_of (decimal n) ≡ Some n
@@ -296,7 +296,7 @@ private-again (Handed name) p bytes h l = quiet (Handed name) p bytes (ap privat
 
 -- ---- texts
 
-tail_later : (byte : ℕ) (bytes more : List ℕ) → Later 6 more → Later 5 (text_part (byte ∷ bytes) ++ more)
+pub tail_later : (byte : ℕ) (bytes more : List ℕ) → Later 6 more → Later 5 (text_part (byte ∷ bytes) ++ more)
 tail_later byte bytes more l = (refl, omega arith)
 
 pub text-later : (text bytes : List ℕ) → Later 6 bytes → Later 5 (text_part text ++ bytes)
@@ -354,10 +354,10 @@ inline-again (byte ∷ bytes) u =
 
 -- ---- kinds
 
-name-is_utf8 : (name : List ℕ) → is_name name ≡ true → is_utf8 name ≡ true
+pub name-is_utf8 : (name : List ℕ) → is_name name ≡ true → is_utf8 name ≡ true
 name-is_utf8 name h = is_utf8-from_IsUtf8 name (name_utf8 name h)
 
-none-found : {A : Type 0} (name : List ℕ) (f : A → List ℕ) (xs : List A) → list_any (bytes_eq name) (map f xs) ≡ false → find (λ x. bytes_eq name (f x)) xs ≡ None
+pub none-found : {A : Type 0} (name : List ℕ) (f : A → List ℕ) (xs : List A) → list_any (bytes_eq name) (map f xs) ≡ false → find (λ x. bytes_eq name (f x)) xs ≡ None
 none-found name f [] h = refl
 none-found name f (x ∷ xs) h = by (bytes_eq name (f x)) h (none-found name f xs)
   where
@@ -368,7 +368,7 @@ none-found name f (x ∷ xs) h = by (bytes_eq name (f x)) h (none-found name f x
 built-again : (name : List ℕ) (o : Option Kind) (kind : Kind) → is_name name ≡ true → find (λ k. bytes_eq name (kind_name k)) built_in ≡ o → or_handed name o ≡ Some kind → kind_of name ≡ Some kind
 built-again name o kind h e g = ap (λ (b : Bool). cond b (or_handed name (find (λ k. bytes_eq name (kind_name k)) built_in)) None) (name-is_utf8 name h) ∙ ap (or_handed name) e ∙ g
 
-not_inv : (b : Bool) → not b ≡ true → b ≡ false
+pub not_inv : (b : Bool) → not b ≡ true → b ≡ false
 not_inv true h = absurd (false≢true h)
 not_inv false h = refl
 

@@ -58,7 +58,7 @@ find-none name f (x ∷ xs) h = by (bytes_eq name (f x)) (find-none name f xs) h
     by true more g = none-some (sym g)
     by false more g = more g
 
-any-append : {A : Type 0} (p : A → Bool) (xs ys : List A) → list_any p (xs ++ ys) ≡ (list_any p xs || list_any p ys)
+pub any-append : {A : Type 0} (p : A → Bool) (xs ys : List A) → list_any p (xs ++ ys) ≡ (list_any p xs || list_any p ys)
 any-append p [] ys = refl
 any-append p (x ∷ xs) ys = by (p x) (any-append p xs ys)
   where

@@ -11,3 +11,4 @@ pub mod LastRows
 pub mod Growing
 pub mod Whole
 pub mod AgainParts
+pub mod AgainLines
