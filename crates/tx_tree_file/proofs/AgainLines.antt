@@ -520,7 +520,7 @@ abbrev pub BeginsOther : List ℕ → Type 0
 BeginsOther [] = ⊥
 BeginsOther (b ∷ bytes) = (b == 32) ≡ false
 
-blanks-again : (n : ℕ) (text : List ℕ) → BeginsOther text → (blanks (replicate n 32 ++ text) ≡ n) × (past_blanks (replicate n 32 ++ text) ≡ text)
+pub blanks-again : (n : ℕ) (text : List ℕ) → BeginsOther text → (blanks (replicate n 32 ++ text) ≡ n) × (past_blanks (replicate n 32 ++ text) ≡ text)
 blanks-again zero [] h = absurd h
 blanks-again zero (b ∷ bytes) h = (ap (λ (x : Bool). cond x (blanks bytes + 1) 0) h, ap (λ (x : Bool). drop (cond x (blanks bytes + 1) 0) (b ∷ bytes)) h)
 blanks-again (suc n) text h =

@@ -137,7 +137,7 @@ pub is_widget : (depth : ℕ) (o : Option NewRow) (item : Item) → widget depth
 is_widget depth None item h = err-ok h
 is_widget depth (Some new) item h = let (other, is) = ifs (is_screen new.kind) (Ok (Widget depth new)) Expected item h in (new, refl, other, sym (ok-same is))
 
-stands-inv : (depth count : ℕ) → not (may_stand depth false count) ≡ false → (count % 2 ≡ 0) × (2 ≤ count) × (count ≤ 2 * (depth + 1))
+pub stands-inv : (depth count : ℕ) → not (may_stand depth false count) ≡ false → (count % 2 ≡ 0) × (2 ≤ count) × (count ≤ 2 * (depth + 1))
 stands-inv depth count h =
     let good = not_true (may_stand depth false count) h in
     (same-byte _ 0 (and-left _ _ good), leb-true 2 count (and-left _ _ (and-right _ _ good)), leb-true count (2 * (depth + 1)) (and-right _ _ (and-right _ _ good)))

@@ -12,3 +12,4 @@ pub mod Growing
 pub mod Whole
 pub mod AgainParts
 pub mod AgainLines
+pub mod Faults

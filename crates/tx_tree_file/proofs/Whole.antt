@@ -38,7 +38,7 @@ use Rattle.tx_tree_file.specs.declared.line.Item.TheVariants.{Binding, Widget}
 
 -- ---- blanks before a line
 
-blanks_split : (line : List ℕ) → line ≡ replicate (blanks line) 32 ++ past_blanks line
+pub blanks_split : (line : List ℕ) → line ≡ replicate (blanks line) 32 ++ past_blanks line
 blanks_split [] = refl
 blanks_split (byte ∷ bytes) = by (byte == 32) refl (blanks_split bytes)
   where
@@ -99,13 +99,13 @@ pub record Stands (begun : Begun) : Type 0 where
   pub last_id : is_taken begun.last.id begun.before ≡ false
   pub few : length begun.before + 1 ≤ 65536
 
-again-snoc : (n : ℕ) (rows : List Row) (row : Row) → read_again n (rows ++ row ∷ []) ≡ read_again n rows ++ read_row (length rows + n) row ∷ []
+pub again-snoc : (n : ℕ) (rows : List Row) (row : Row) → read_again n (rows ++ row ∷ []) ≡ read_again n rows ++ read_row (length rows + n) row ∷ []
 again-snoc n [] row = ap (λ (k : ℕ). read_row k row ∷ []) (omega arith)
 again-snoc n (r ∷ rows) row =
     let next : length rows + (n + 1) ≡ length (r ∷ rows) + n = omega arith in
     ap (λ (z : List Row). read_row n r ∷ z) (again-snoc (n + 1) rows row) ∙ ap (λ (k : ℕ). read_row n r ∷ (read_again (n + 1) rows ++ read_row k row ∷ [])) next
 
-ids-snoc : (before rows : List Row) (row : Row) → ids_differ before rows ≡ true → is_taken row.id (before ++ rows) ≡ false → ids_differ before (rows ++ row ∷ []) ≡ true
+pub ids-snoc : (before rows : List Row) (row : Row) → ids_differ before rows ≡ true → is_taken row.id (before ++ rows) ≡ false → ids_differ before (rows ++ row ∷ []) ≡ true
 ids-snoc before [] row h e = ap (λ (b : Bool). not b && true) (ap (is_taken row.id) (sym (append-nil before)) ∙ e)
 ids-snoc before (r ∷ rows) row h e =
     both _ _ (and-left _ _ h) (ids-snoc (before ++ r ∷ []) rows row (and-right (not (is_taken r.id before)) _ h) (ap (is_taken row.id) (append_assoc before (r ∷ []) rows) ∙ e))
@@ -364,7 +364,7 @@ pub record IsWhole (begun : Begun) (lines : List (List ℕ)) (rows : List Row) :
   pub stands : Stands last
   pub text : spelling rows ≡ spelling (rows_so_far begun) ++ joined lines
 
-or-inv : (number : ℕ) (r : Result Begun TreeKind) (more : Begun → Result (List Row) LineFault) (rows : List Row) → or_fault number r more ≡ Ok rows → (next : Begun) × (r ≡ Ok next) × (more next ≡ Ok rows)
+pub or-inv : (number : ℕ) (r : Result Begun TreeKind) (more : Begun → Result (List Row) LineFault) (rows : List Row) → or_fault number r more ≡ Ok rows → (next : Begun) × (r ≡ Ok next) × (more next ≡ Ok rows)
 or-inv number (Ok next) more rows h = (next, refl, h)
 or-inv number (Err kind) more rows h = err-ok h
 
@@ -427,7 +427,7 @@ file-found bytes rows h = subst (λ (z : List ℕ). IsFoundFile z rows) (joined-
 
 -- ---- the first line, as the code reads it
 
-first-cut : (bytes line rest : List ℕ) → pieces 10 bytes ≡ line ∷ pieces 10 rest → tree_of bytes ≡ or_fault 1 (with_first (first_item line true)) (rows_behind (pieces 10 rest) 1)
+pub first-cut : (bytes line rest : List ℕ) → pieces 10 bytes ≡ line ∷ pieces 10 rest → tree_of bytes ≡ or_fault 1 (with_first (first_item line true)) (rows_behind (pieces 10 rest) 1)
 first-cut bytes line rest cut = ap rows_of_lines cut ∙ ap (λ (b : Bool). or_fault 1 (first_line line (not b)) (rows_behind (pieces 10 rest) 1)) (some_piece rest)
 
 pub first-read : (bytes line rest : List ℕ) (new : NewRow) → pieces 10 bytes ≡ line ∷ pieces 10 rest → first_item line true ≡ Ok new
