@@ -76,7 +76,7 @@ high_byte : (p : ℕ → Bool) (b : ℕ) (bytes : List ℕ) → ((b : ℕ) → 1
 high_byte p b bytes high h more = both (p b) (list_all p bytes) (high b h) more
 
 -- a test that all bytes of a character pass
-encode-all : (p : ℕ → Bool) (c : ℕ) → (c < 128 → p c ≡ true) → ((b : ℕ) → 128 ≤ b → p b ≡ true) → list_all p (encode c) ≡ true
+pub encode-all : (p : ℕ → Bool) (c : ℕ) → (c < 128 → p c ≡ true) → ((b : ℕ) → 128 ≤ b → p b ≡ true) → list_all p (encode c) ≡ true
 unfolding encode
 encode-all p c low high = by (nat_lt c 128) (nat_lt c 2048) (nat_lt c 65536) refl
   where

@@ -51,7 +51,7 @@ last-snoc [] last = refl
 last-snoc (row ∷ []) last = refl
 last-snoc (row ∷ next ∷ rows) last = last-snoc (next ∷ rows) last
 
-preorder-some : (rows : List Row) → IsPreorder rows → IsPreorderOrNone rows
+pub preorder-some : (rows : List Row) → IsPreorder rows → IsPreorderOrNone rows
 preorder-some [] h = absurd h
 preorder-some (row ∷ rows) h = h
 

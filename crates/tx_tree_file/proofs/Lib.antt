@@ -13,3 +13,4 @@ pub mod Whole
 pub mod AgainParts
 pub mod AgainLines
 pub mod Faults
+pub mod AgainFile

@@ -4,6 +4,7 @@ use Rattle.tx_tree.specs.declared.fault.TreeFault.{TreeFault}
 use Rattle.tx_tree_file.specs.TreeFile.{IsReading}
 use Rattle.tx_tree_file.specs.TreeReading.{tree_of, Reads}
 use Rattle.tx_tree_file.specs.FirstFault.{IsFaultOf}
+use Rattle.tx_tree_file.proofs.AgainFile.{gives-rows, reading-again}
 use Rattle.tx_tree_file.proofs.Faults.{fault-of}
 use Rattle.tx_tree_file.proofs.Whole.{reading-of}
 use Rattle.tx_tree_file.proofs.read.read_tree.Goals as goal
@@ -21,3 +22,6 @@ returns-clause-fault c = by c.args.bytes.now c.read_lines.result c.read_lines.en
     by : (bytes : List ℕ) (r : Result TreeValue TreeFault) → Reads (tree_of bytes) r → IfErr r (λ fault. IsFaultOf bytes fault)
     by bytes (Ok tree) h = tt
     by bytes (Err fault) h = fault-of bytes fault h
+
+pub returns-clause-only : goal.returns-clause-only
+returns-clause-only c = λ tree whole reading. gives-rows tree.rows _ c.read_lines.result (reading-again c.args.bytes.now tree whole reading) c.read_lines.ensures

@@ -1,0 +1,481 @@
+-- What is spelled is read again, the whole file.
+use Rattle.std.proofs.Common.{◌≡◌, ℕ, zero, suc, ◌+◌, ◌-◌, ◌*◌, ◌/◌, ◌%◌, ◌<◌, ◌≤◌, ◌==◌, ◌&&◌, ◌||◌, Bool, true, false, cond, not, nat_le, List, [], ◌∷◌, ◌++◌, length, drop, replicate, flat_map, fold, sum_by, Option, Some, None, Result, Ok, Err, refl, ap, ap₂, sym, subst, subst₂, ◌∙◌, arith, append_assoc, append-nil, length-append, ◌≢◌, ◌⊎◌, inl, inr, ⊎_elim, codes, add-one}
+use Rattle.std.specs.List.{list_all}
+use Rattle.std.specs.Option.{option_map_or}
+use Rattle.std.specs.Str.{is_utf8}
+use Rattle.std.proofs.lemmas.Bool.{false≢true, eqb-true, ne_eqb}
+use Rattle.std.proofs.lemmas.Grind.{flat_map-append}
+use Rattle.tx_read.specs.Pieces.{pieces, onto}
+use Rattle.tx_tree.proofs.NameBytes.{and-left, and-right}
+use Rattle.tx_tree.specs.Kind.{is_screen, holds_children}
+use Rattle.tx_tree.specs.Mount.{is_taken}
+use Rattle.tx_tree.specs.Row.{placed}
+use Rattle.tx_tree.specs.Rows.{last_above}
+use Rattle.tx_tree.specs.Name.{is_name}
+use Rattle.tx_tree.specs.Spelled.{is_spelled, key_is_spelled, no_line_feed, byte_is_spelled, no_repeats, kind_is_spelled, private_is_spelled}
+use Rattle.tx_tree.specs.WellFormed.{MayFollow, MayAllFollow, IsFirst, IsPreorder}
+use Rattle.tx_tree.specs.TreeValue.{TreeValue}
+use Rattle.tx_tree.specs.declared.bind.Bind.{Bind}
+use Rattle.tx_tree.specs.declared.fault.TreeFault.{TreeFault}
+use Rattle.tx_tree.specs.declared.fault.TreeFault.TheVariants.{Grammar, NoNode, DuplicateId as DuplicateId', TooMany as TooMany', TooDeep as TooDeep', Root, Leaf as Leaf', NotSiblings, NoMemory}
+use Rattle.tx_tree.specs.declared.fault.TreeKind.{TreeKind}
+use Rattle.tx_tree.specs.declared.fault.TreeKind.TheVariants.{BadByte, BadIndent, TooDeep, Expected, Leaf, TooMany, DuplicateId}
+use Rattle.tx_tree.specs.declared.row.NewRow.{NewRow}
+use Rattle.tx_tree.specs.declared.row.Row.{Row}
+use Rattle.tx_tree_file.proofs.FoundLines.{IsRowText, row-found, IsBindText, bind-found, all-behind}
+use Rattle.tx_tree_file.proofs.FoundParts.{both}
+use Rattle.tx_tree_file.proofs.Fronts.{same-byte, some-same, none-some}
+use Rattle.tx_tree_file.proofs.Growing.{above_front, all-snoc}
+use Rattle.tx_tree_file.proofs.LastRows.{ok-same, err-ok, ifs, ended-inv, item-inv, is_bind, is_widget, IsItem, IsRowItem, row_item-inv, other_than, some_piece}
+use Rattle.tx_tree_file.proofs.Repeats.{not_true}
+use Rattle.tx_tree_file.specs.FirstFault.{ids_differ, is_held, line_count, IsPreorderOrNone, IsBegun, last_row, SpellsRow, SpellsBind, IsIndented, IsPlaced, IsRowLine, IsNothing, Breaks, is_line_end, is_ended, IsFirstFault, IsFaultOf}
+use Rattle.tx_tree_file.proofs.AgainLines.{encode-all, row-utf8, HasParts, has-parts, row-begins, blanks-again, row-again, row_line-again, bind_line-again, new_of, BeginsOther}
+use Rattle.tx_tree_file.proofs.LastRows.{stands-inv}
+use Rattle.tx_tree_file.proofs.Whole.{Stands, ends-preorder, ids-snoc, again-snoc, blanks_split, indented, with_new-inv, IsAllowed, IsNext, next-found, IsFirstItem, first-inv, first-stands, first-text, first-read, joined, joined-pieces, pieces-whole, or-inv, count-last}
+use Rattle.tx_tree_file.specs.Indent.{may_indent, is_too_deep, starts_bind, blanks, past_blanks, is_bind_line, may_stand}
+use Rattle.tx_tree_file.specs.Spelling.{indent, row_text, row_line, bind_text, bind_line, row_lines, spelling}
+use Rattle.tx_tree_file.specs.TreeFile.{is_typed, bind_is_typed, kind_is_typed, id_is_typed, kept, read_row, read_again, IsReading}
+use Rattle.tx_tree_file.specs.TreeReading.{Begun, LineFault, screen, first_item, with_first, first_line, binding, widget, bind_item, row_item, item_of, row_of, bind_of, with_bind, with_new, with_item, next_line, or_fault, is_empty, rows_behind, rows_so_far, rows_of_lines, tree_of, Tells, FaultIs, Reads, GivesRows}
+use Rattle.tx_tree_file.specs.declared.line.Item.{Item}
+use Rattle.tx_tree_file.specs.declared.line.Item.TheVariants.{Binding, Widget}
+
+
+use Rattle.std.specs.Char.{is_ascii_digit}
+use Rattle.std.specs.List.{list_any}
+use Rattle.std.specs.Option.{option_eq}
+use Rattle.std.proofs.Common.{nat_lt, decimal, bytes_eq, map, filter, option_and_then, encode_utf8}
+use Rattle.std.proofs.lemmas.Bool.{leb-true, leb-false, ltb-true}
+use Rattle.std.proofs.lemmas.Bool.Decides.{nat_tests, Decides-eqb}
+use Rattle.std.proofs.lemmas.Str.{is_utf8-from_IsUtf8}
+use Rattle.tx_tree.proofs.Ids.{id_from_test, test_from_id}
+use Rattle.tx_tree.proofs.RowLists.{count_of-append, row_at-skip}
+use Rattle.tx_tree.specs.Kind.{kind_name}
+use Rattle.tx_tree.specs.Name.{begins_name, continues_name}
+use Rattle.tx_tree.specs.Rows.{row_at, count_of, has_id}
+use Rattle.tx_tree.specs.Row.{has_number}
+use Rattle.tx_tree.specs.WellFormed.{IsTree, id_of}
+use Rattle.tx_tree.specs.declared.bind.Action.{Action}
+use Rattle.tx_tree.specs.declared.bind.Action.TheVariants.{FocusNext, FocusPrevious, ToggleDark, ToggleClass, Scroll}
+use Rattle.tx_tree.specs.declared.bind.Jump.TheVariants.{Up as JumpUp, Down as JumpDown, Home as JumpHome, End as JumpEnd, PageUp as JumpPageUp, PageDown as JumpPageDown}
+use Rattle.tx_tree.specs.declared.bind.Key.{Key}
+use Rattle.tx_tree.specs.declared.bind.Key.TheVariants.{Char, Enter, Escape, Tab, ShiftTab, Backspace, Delete, Up, Down, Left, Right, Home, End, PageUp, PageDown, Function, Ctrl}
+use Rattle.tx_tree.specs.declared.kind.Kind.{Kind}
+use Rattle.tx_tree.specs.declared.kind.Kind.TheVariants.{Screen, Container, Vertical, Horizontal, Grid, VerticalScroll, Static, Label, Button, Checkbox, Input, OptionList, ProgressBar, Header, Footer, Handed}
+use Rattle.tx_tree.specs.declared.kind.Private.{Private}
+use Rattle.tx_tree.specs.declared.kind.Private.TheVariants.{Plain, Cursor, On, Chosen, Bar}
+use Rattle.tx_tree_file.proofs.AgainParts.{decimal-digits, not_inv}
+use Rattle.tx_tree_file.proofs.Faults.{ok-err, preorder-some}
+use Rattle.tx_tree_file.proofs.LastRows.{bind_line_read, row_line_read, one_bind_more}
+use Rattle.tx_tree_file.specs.Sections.{with_binds}
+use Rattle.tx_tree_file.specs.Spelling.{id_part, class_part, class_parts, disabled_part, private_part, escaped, text_part, inline_part, key_name, action_name, priority_part}
+use Rattle.tx_tree_file.specs.TreeFile.{action_is_typed, key_is_typed}
+
+-- ---- no line feed in a line
+
+abbrev Free : List ℕ → Type 0
+Free bytes = list_all no_line_feed bytes ≡ true
+
+and-free : (xs ys : List ℕ) → Free xs → Free ys → Free (xs ++ ys)
+and-free [] ys h g = g
+and-free (b ∷ xs) ys h g = both (no_line_feed b) (list_all no_line_feed (xs ++ ys)) (and-left _ _ h) (and-free xs ys (and-right (no_line_feed b) _ h) g)
+
+begins-free : (b : ℕ) → begins_name b ≡ true → no_line_feed b ≡ true
+begins-free b h = grind (arith, nat_tests)
+
+continues-free : (b : ℕ) → continues_name b ≡ true → no_line_feed b ≡ true
+continues-free b h = grind (arith, nat_tests)
+
+rest-free : (bytes : List ℕ) → list_all continues_name bytes ≡ true → Free bytes
+rest-free [] h = refl
+rest-free (b ∷ bytes) h = both (no_line_feed b) (list_all no_line_feed bytes) (continues-free b (and-left _ _ h)) (rest-free bytes (and-right (continues_name b) _ h))
+
+name-free : (name : List ℕ) → is_name name ≡ true → Free name
+name-free [] h = refl
+name-free (b ∷ bytes) h = both (no_line_feed b) (list_all no_line_feed bytes) (begins-free b (and-left _ _ h)) (rest-free bytes (and-right _ _ (and-right (begins_name b) _ h)))
+
+digit-free : (d : ℕ) → is_ascii_digit d ≡ true → no_line_feed d ≡ true
+digit-free d h = grind (arith, nat_tests)
+
+digits-free : (ds : List ℕ) → list_all is_ascii_digit ds ≡ true → Free ds
+digits-free [] h = refl
+digits-free (d ∷ ds) h = both (no_line_feed d) (list_all no_line_feed ds) (digit-free d (and-left _ _ h)) (digits-free ds (and-right (is_ascii_digit d) _ h))
+
+blanks-free : (n : ℕ) → Free (replicate n 32)
+blanks-free zero = refl
+blanks-free (suc n) = blanks-free n
+
+kind-free : (kind : Kind) → kind_is_typed kind ≡ true → Free (kind_name kind)
+kind-free (Handed name) h = name-free name h
+kind-free Screen h = refl
+kind-free Container h = refl
+kind-free Vertical h = refl
+kind-free Horizontal h = refl
+kind-free Grid h = refl
+kind-free VerticalScroll h = refl
+kind-free Static h = refl
+kind-free Label h = refl
+kind-free Button h = refl
+kind-free Checkbox h = refl
+kind-free Input h = refl
+kind-free OptionList h = refl
+kind-free ProgressBar h = refl
+kind-free Header h = refl
+kind-free Footer h = refl
+
+id-free : (id : Option (List ℕ)) → id_is_typed id ≡ true → Free (id_part id)
+id-free None h = refl
+id-free (Some id) h = name-free id h
+
+classes-free : (names : List (List ℕ)) → list_all is_name names ≡ true → Free (class_parts names)
+classes-free [] h = refl
+classes-free (name ∷ names) h = and-free (class_part name) (class_parts names) (name-free name (and-left _ _ h)) (classes-free names (and-right (is_name name) _ h))
+
+disabled-free : (b : Bool) → Free (disabled_part b)
+disabled-free true = refl
+disabled-free false = refl
+
+total-free : (b : Bool) (total : ℕ) → total ≤ 1000000 → Free (cond b [] (codes " total " ++ decimal total))
+total-free true total h = refl
+total-free false total h = digits-free (decimal total) (decimal-digits total (omega (arith, h))).0
+
+private-free : (kind : Kind) (private : Private) → private_is_spelled kind private ≡ true → Free (private_part private)
+private-free kind (On true) h = refl
+private-free kind (On false) h = refl
+private-free kind Plain h = refl
+private-free kind (Cursor place) h = refl
+private-free kind (Chosen line) h = refl
+private-free ProgressBar (Bar done total) h = total-free (total == 100) total (leb-true total 1000000 (and-right (nat_le 1 total) _ h))
+private-free Screen (Bar done total) h = absurd (false≢true h)
+private-free Container (Bar done total) h = absurd (false≢true h)
+private-free Vertical (Bar done total) h = absurd (false≢true h)
+private-free Horizontal (Bar done total) h = absurd (false≢true h)
+private-free Grid (Bar done total) h = absurd (false≢true h)
+private-free VerticalScroll (Bar done total) h = absurd (false≢true h)
+private-free Static (Bar done total) h = absurd (false≢true h)
+private-free Label (Bar done total) h = absurd (false≢true h)
+private-free Button (Bar done total) h = absurd (false≢true h)
+private-free Checkbox (Bar done total) h = absurd (false≢true h)
+private-free Input (Bar done total) h = absurd (false≢true h)
+private-free OptionList (Bar done total) h = absurd (false≢true h)
+private-free Header (Bar done total) h = absurd (false≢true h)
+private-free Footer (Bar done total) h = absurd (false≢true h)
+private-free (Handed name) (Bar done total) h = absurd (false≢true h)
+
+escaped-free : (b : ℕ) → Free (escaped b)
+escaped-free b = by (b == 34) (b == 92) (b == 10) refl
+  where
+    by : (x y z : Bool) → (b == 10) ≡ z → Free (cond x (codes "\\\"") (cond y (codes "\\\\") (cond z (codes "\\n") (b ∷ []))))
+    by true y z e = refl
+    by false true z e = refl
+    by false false true e = refl
+    by false false false e = both (no_line_feed b) true (ap not e) refl
+
+all_escaped-free : (text : List ℕ) → Free (flat_map escaped text)
+all_escaped-free [] = refl
+all_escaped-free (b ∷ text) = and-free (escaped b) (flat_map escaped text) (escaped-free b) (all_escaped-free text)
+
+text-free : (text : List ℕ) → Free (text_part text)
+text-free [] = refl
+text-free (b ∷ text) = and-free (codes " \"" ++ flat_map escaped (b ∷ text)) (codes "\"") (all_escaped-free (b ∷ text)) refl
+
+inline-free : (inline : List ℕ) → Free inline → Free (inline_part inline)
+inline-free [] h = refl
+inline-free (b ∷ bytes) h = and-free (codes " {" ++ (b ∷ bytes)) (codes "}") h refl
+
+row-free : (row : Row) → HasParts row → Free (indent row.depth ++ row_text row)
+row-free row h =
+    and-free (indent row.depth) (row_text row) (blanks-free (2 * row.depth)) (and-free (kind_name row.kind) _ (kind-free row.kind h.kind_typed) (and-free (id_part row.id) _ (id-free row.id h.id_typed)
+    (and-free (class_parts row.classes.names) _ (classes-free row.classes.names h.classes_typed) (and-free (disabled_part row.disabled) _ (disabled-free row.disabled) (and-free (private_part row.private) _ (private-free row.kind row.private h.private_spelled)
+    (and-free (text_part row.text) (inline_part row.inline) (text-free row.text) (inline-free row.inline h.inline_spelled)))))))
+
+letter-free : (b : ℕ) → (nat_le 97 b && nat_le b 122) ≡ true → no_line_feed b ≡ true
+letter-free b h = grind (arith, nat_tests)
+
+char-free : (c : ℕ) → nat_le 32 c ≡ true → Free (encode_utf8 c)
+char-free c h =
+    let big = leb-true 32 c h in
+    encode-all no_line_feed c (λ g. ap not (ne_eqb c 10 (λ same. absurd (omega (arith, big, same))))) (λ b g. ap not (ne_eqb b 10 (λ same. absurd (omega (arith, g, same)))))
+
+key-free : (key : Key) → key_is_spelled key ≡ true → Free (key_name key)
+key-free (Char c) h = by (c == 32)
+  where
+    by : (b : Bool) → Free (cond b (codes "space") (encode_utf8 c))
+    by true = refl
+    by false = char-free c (and-left (nat_le 32 c) _ h)
+key-free (Function n) h = let most = leb-true n 12 (and-right (nat_le 1 n) _ h) in digits-free (decimal n) (decimal-digits n (omega (arith, most))).0
+key-free (Ctrl b) h = both (no_line_feed b) true (letter-free b h) refl
+key-free Enter h = refl
+key-free Escape h = refl
+key-free Tab h = refl
+key-free ShiftTab h = refl
+key-free Backspace h = refl
+key-free Delete h = refl
+key-free Up h = refl
+key-free Down h = refl
+key-free Left h = refl
+key-free Right h = refl
+key-free Home h = refl
+key-free End h = refl
+key-free PageUp h = refl
+key-free PageDown h = refl
+
+action-free : (action : Action) → action_is_typed action ≡ true → Free (action_name action)
+action-free (ToggleClass name) h = name-free name h
+action-free FocusNext h = refl
+action-free FocusPrevious h = refl
+action-free ToggleDark h = refl
+action-free (Scroll JumpUp) h = refl
+action-free (Scroll JumpDown) h = refl
+action-free (Scroll JumpHome) h = refl
+action-free (Scroll JumpEnd) h = refl
+action-free (Scroll JumpPageUp) h = refl
+action-free (Scroll JumpPageDown) h = refl
+
+priority-free : (b : Bool) → Free (priority_part b)
+priority-free true = refl
+priority-free false = refl
+
+bind-free : (depth : ℕ) (bind : Bind) → key_is_spelled bind.key ≡ true → bind_is_typed bind ≡ true → Free (indent (depth + 1) ++ bind_text bind)
+bind-free depth bind h t =
+    and-free (indent (depth + 1)) (bind_text bind) (blanks-free (2 * (depth + 1))) (and-free (priority_part bind.priority) _ (priority-free bind.priority)
+    (and-free (key_name bind.key) _ (key-free bind.key h) (action-free bind.action (and-right (key_is_typed bind.key) _ t))))
+
+-- ---- a line is cut off at its line feed
+
+cut-again : (line rest : List ℕ) → Free line → pieces 10 (line ++ (10 ∷ rest)) ≡ line ∷ pieces 10 rest
+cut-again [] rest h = refl
+cut-again (b ∷ line) rest h =
+    let other : (b == 10) ≡ false = by (b == 10) (and-left (no_line_feed b) _ h) in
+    ap (λ (x : Bool). cond x ([] ∷ pieces 10 (line ++ (10 ∷ rest))) (onto b (pieces 10 (line ++ (10 ∷ rest))))) other ∙ ap (onto b) (cut-again line rest (and-right (no_line_feed b) _ h))
+  where
+    by : (x : Bool) → not x ≡ true → x ≡ false
+    by true g = absurd (false≢true g)
+    by false g = refl
+
+-- ---- bindings
+
+no_binds : (last : Row) → with_binds [] last ≡ last
+no_binds last = ap (λ (z : List Bind). record last { binds = z }) (append-nil last.binds)
+
+more_binds : (bind : Bind) (binds : List Bind) (last : Row) → with_binds binds (with_bind bind last) ≡ with_binds (bind ∷ binds) last
+more_binds bind binds last = ap (λ (z : List Bind). record last { binds = z }) (append_assoc last.binds (bind ∷ []) binds)
+
+binds-again : (binds : List Bind) (rest : List ℕ) (done : ℕ) (before : List Row) (last : Row) → list_all (λ bind. key_is_spelled bind.key) binds ≡ true → list_all bind_is_typed binds ≡ true
+    → rows_behind (pieces 10 (flat_map (bind_line last.depth) binds ++ rest)) done (record { before = before; last = last }) ≡ rows_behind (pieces 10 rest) (done + length binds) (record { before = before; last = with_binds binds last })
+binds-again [] rest done before last h t =
+    ap₂ (λ (n : ℕ) (z : Row). rows_behind (pieces 10 rest) n (record { before = before; last = z })) (omega arith) (sym (no_binds last))
+binds-again (bind ∷ binds) rest done before last h t =
+    let spelled = and-left (key_is_spelled bind.key) _ h in
+    let typed = and-left (bind_is_typed bind) _ t in
+    let line = indent (last.depth + 1) ++ bind_text bind in
+    let more = flat_map (bind_line last.depth) binds ++ rest in
+    let text : (bind_line last.depth bind ++ flat_map (bind_line last.depth) binds) ++ rest ≡ line ++ (10 ∷ more) =
+      append_assoc (bind_line last.depth bind) (flat_map (bind_line last.depth) binds) rest
+      ∙ ap (λ (z : List ℕ). z ++ more) (sym (append_assoc (indent (last.depth + 1)) (bind_text bind) (codes "\n")))
+      ∙ append_assoc line (codes "\n") more in
+    let number : done + 1 + length binds ≡ done + length (bind ∷ binds) = omega arith in
+    ap (λ (z : List ℕ). rows_behind (pieces 10 z) done (record { before = before; last = last })) text
+    ∙ bind_line_read (line ++ (10 ∷ more)) line more done before last bind (cut-again line more (bind-free last.depth bind spelled typed)) (bind_line-again last.depth bind spelled typed)
+    ∙ binds-again binds rest (done + 1) before (with_bind bind last) (and-right (key_is_spelled bind.key) _ h) (and-right (bind_is_typed bind) _ t)
+    ∙ ap₂ (λ (n : ℕ) (z : Row). rows_behind (pieces 10 rest) n (record { before = before; last = z })) number (more_binds bind binds last)
+
+-- ---- rows
+
+above-snoc : (d : ℕ) (found : Option Row) (rows : List Row) (row : Row) → last_above d found (rows ++ row ∷ []) ≡ cond (row.depth + 1 == d) (Some row) (last_above d found rows)
+above-snoc d found [] row = refl
+above-snoc d found (r ∷ rows) row = above-snoc d (cond (r.depth + 1 == d) (Some r) found) rows row
+
+-- each depth down to the last row's has a row that may have children above it
+abbrev pub Held : List Row → ℕ → Type 0
+Held rows depth = (d : ℕ) → 1 ≤ d → d ≤ depth → is_held d rows ≡ true
+
+held-here : (rows : List Row) (last row : Row) → Held (rows ++ last ∷ []) last.depth → MayFollow last row → is_held row.depth (rows ++ last ∷ []) ≡ true
+held-here rows last row h f = by (nat_le row.depth last.depth) refl
+  where
+    by : (b : Bool) → nat_le row.depth last.depth ≡ b → is_held row.depth (rows ++ last ∷ []) ≡ true
+    by true e = h row.depth f.below_first (leb-true row.depth last.depth e)
+    by false e =
+        let more = leb-false row.depth last.depth e in
+        let step = f.step in
+        let next : row.depth ≡ last.depth + 1 = omega (arith, more, step) in
+        ap (λ (o : Option Row). option_map_or (λ parent. holds_children parent.kind) o true) (above-snoc row.depth None rows last ∙ ap (λ (b : Bool). cond b (Some last) (last_above row.depth None rows)) ((Decides-eqb (last.depth + 1) row.depth).1 (sym next)))
+        ∙ f.held next
+
+held-more : (rows : List Row) (row : Row) → Held rows row.depth → Held (rows ++ row ∷ []) row.depth
+held-more rows row h d below few =
+    let other : (row.depth + 1 == d) ≡ false = ne_eqb (row.depth + 1) d (λ same. absurd (omega (arith, same, few))) in
+    ap (λ (o : Option Row). option_map_or (λ parent. holds_children parent.kind) o true) (above-snoc d None rows row ∙ ap (λ (b : Bool). cond b (Some row) (last_above d None rows)) other) ∙ h d below few
+
+held-next : (rows : List Row) (last row : Row) → Held (rows ++ last ∷ []) last.depth → MayFollow last row → Held (rows ++ last ∷ []) row.depth
+held-next rows last row h f d below few = by (nat_le d last.depth) refl
+  where
+    by : (b : Bool) → nat_le d last.depth ≡ b → is_held d (rows ++ last ∷ []) ≡ true
+    by true e = h d below (leb-true d last.depth e)
+    by false e =
+        let more = leb-false d last.depth e in
+        let step = f.step in
+        let here : row.depth ≡ d = omega (arith, more, step, few) in
+        subst (λ (n : ℕ). is_held n (rows ++ last ∷ []) ≡ true) here (held-here rows last row h f)
+
+again-head : (n : ℕ) (row : Row) (rows : List Row) → row ∷ rows ≡ read_again n (row ∷ rows) → (row ≡ read_row n row) × (rows ≡ read_again (n + 1) rows)
+again-head n row rows h = (head (row ∷ rows) (read_again n (row ∷ rows)) h, tail (row ∷ rows) (read_again n (row ∷ rows)) h)
+  where
+    head_or : List Row → Row
+    head_or [] = row
+    head_or (r ∷ rs) = r
+    tail_or : List Row → List Row
+    tail_or [] = []
+    tail_or (r ∷ rs) = rs
+    head : (xs ys : List Row) → xs ≡ ys → head_or xs ≡ head_or ys
+    head xs ys e = ap head_or e
+    tail : (xs ys : List Row) → xs ≡ ys → tail_or xs ≡ tail_or ys
+    tail xs ys e = ap tail_or e
+
+-- the row that is read is the row
+row-whole : (n : ℕ) (row : Row) → row ≡ read_row n row → with_binds row.binds (placed (new_of row) n row.depth) ≡ row
+row-whole n row e = sym e
+
+with_new-again : (rows : List Row) (d : ℕ) (new : NewRow) → is_held d rows ≡ true → (length rows == 65536) ≡ false → is_taken new.id rows ≡ false
+    → with_new rows d new ≡ Ok (record { before = rows; last = placed new (length rows + 1) d })
+with_new-again rows d new a b c = rw (a, b, c) refl
+
+pub rows-again : (rows : List Row) (done : ℕ) (before : List Row) (last : Row) → MayAllFollow last rows → last.depth ≤ 63 → list_all is_typed rows ≡ true → list_all is_spelled rows ≡ true
+    → rows ≡ read_again (length before + 2) rows → ids_differ (before ++ last ∷ []) rows ≡ true → length before + 1 + length rows ≤ 65536 → Held (before ++ last ∷ []) last.depth
+    → rows_behind (pieces 10 (spelling rows)) done (record { before = before; last = last }) ≡ Ok ((before ++ last ∷ []) ++ rows)
+rows-again [] done before last follow deep typed spelled fresh ids few held = ap Ok (sym (append-nil (before ++ last ∷ [])))
+rows-again (row ∷ rows) done before last follow deep typed spelled fresh ids few held =
+    let so_far = before ++ last ∷ [] in
+    let parts = has-parts row (and-left _ _ typed) (and-left _ _ spelled) in
+    let f = follow.0 in
+    let line = indent row.depth ++ row_text row in
+    let more = flat_map (bind_line row.depth) row.binds ++ spelling rows in
+    let size : length so_far ≡ length before + 1 = length-append before (last ∷ []) in
+    let (same, rest) = again-head (length before + 2) row rows fresh in
+    let number : length before + 2 ≡ length so_far + 1 = omega (arith, size) in
+    let text : spelling (row ∷ rows) ≡ line ++ (10 ∷ more) =
+      append_assoc (row_line row) (flat_map (bind_line row.depth) row.binds) (spelling rows)
+      ∙ ap (λ (z : List ℕ). z ++ more) (sym (append_assoc (indent row.depth) (row_text row) (codes "\n")))
+      ∙ append_assoc line (codes "\n") more in
+    let below = f.below_first in
+    let step = f.step in
+    let shallow = f.shallow in
+    ap (λ (z : List ℕ). rows_behind (pieces 10 z) done (record { before = before; last = last })) text
+    ∙ row_line_read (line ++ (10 ∷ more)) line more done row.depth before last (new_of row) (cut-again line more (row-free row parts)) (row_line-again last.depth row.depth row parts f.no_screen below shallow step)
+    ∙ ap (λ (r : Result Begun TreeKind). or_fault (done + 1) r (rows_behind (pieces 10 more) (done + 1))) (with_new-again so_far row.depth (new_of row) (held-here before last row held f)
+        (ne_eqb (length so_far) 65536 (λ full. absurd (omega (arith, full, size, few)))) (not_inv (is_taken row.id so_far) (and-left _ _ ids)))
+    ∙ binds-again row.binds (spelling rows) (done + 1) so_far (placed (new_of row) (length so_far + 1) row.depth) parts.binds_spelled parts.binds_typed
+    ∙ ap (λ (z : Row). rows_behind (pieces 10 (spelling rows)) (done + 1 + length row.binds) (record { before = so_far; last = z })) (row-whole (length so_far + 1) row (same ∙ ap (λ (n : ℕ). read_row n row) number))
+    ∙ rows-again rows (done + 1 + length row.binds) so_far row follow.1 shallow (and-right (is_typed row) _ typed) (and-right (is_spelled row) _ spelled)
+        (rest ∙ ap (λ (n : ℕ). read_again n rows) (omega (arith, size))) (and-right (not (is_taken row.id so_far)) _ ids) (omega (arith, size, few)) (held-more so_far row (held-next before last row held f))
+    ∙ ap Ok (append_assoc so_far (row ∷ []) rows)
+
+-- ---- the first line
+
+first-again : (row : Row) → HasParts row → is_screen row.kind ≡ true → first_item (row_text row) true ≡ Ok (new_of row)
+first-again row h screen_is =
+    let utf8 = is_utf8-from_IsUtf8 (row_text row) (row-utf8 row h) in
+    let (count, past) = blanks-again 0 (row_text row) (row-begins row h.kind_spelled).0 in
+    ap (λ (b : Bool). cond (not b) (Err BadByte) (cond (not (blanks (row_text row) == 0)) (Err BadIndent) (screen (row_of (row_text row))))) utf8
+    ∙ ap (λ (n : ℕ). cond (not (n == 0)) (Err BadIndent) (screen (row_of (row_text row)))) count
+    ∙ ap screen (row-again row h)
+    ∙ ap (λ (b : Bool). cond b (Ok (new_of row)) (Err Expected)) screen_is
+
+pub file-again : (rows : List Row) → IsBegun rows → IsPreorder rows → tree_of (spelling rows) ≡ Ok rows
+file-again [] h p = absurd p
+file-again (row ∷ rows) h p =
+    let parts = has-parts row (and-left _ _ h.typed) (and-left _ _ h.spelled) in
+    let first = p.0 in
+    let more = flat_map (bind_line row.depth) row.binds ++ spelling rows in
+    let flat : indent row.depth ≡ [] = ap indent first.depth in
+    let text : spelling (row ∷ rows) ≡ row_text row ++ (10 ∷ more) =
+      append_assoc (row_line row) (flat_map (bind_line row.depth) row.binds) (spelling rows)
+      ∙ ap (λ (z : List ℕ). (z ++ (row_text row ++ codes "\n")) ++ more) flat
+      ∙ append_assoc (row_text row) (codes "\n") more in
+    let free : Free (row_text row) = ap (λ (z : List ℕ). list_all no_line_feed (z ++ row_text row)) (sym flat) ∙ row-free row parts in
+    let (same, rest) = again-head 1 row rows h.fresh in
+    let few = h.few in
+    ap tree_of text
+    ∙ sym (first-read (row_text row ++ (10 ∷ more)) (row_text row) more (new_of row) (cut-again (row_text row) more free) (first-again row parts first.screen))
+    ∙ ap (λ (d : ℕ). rows_behind (pieces 10 (flat_map (bind_line row.depth) row.binds ++ spelling rows)) 1 (record { before = []; last = placed (new_of row) 1 d })) (sym first.depth)
+    ∙ binds-again row.binds (spelling rows) 1 [] (placed (new_of row) 1 row.depth) parts.binds_spelled parts.binds_typed
+    ∙ ap (λ (z : Row). rows_behind (pieces 10 (spelling rows)) (1 + length row.binds) (record { before = []; last = z })) (row-whole 1 row same)
+    ∙ rows-again rows (1 + length row.binds) [] row p.1 (let d = first.depth in omega (arith, d)) (and-right (is_typed row) _ h.typed) (and-right (is_spelled row) _ h.spelled) rest
+        (and-right (not (is_taken row.id [])) _ h.ids) (omega (arith, few)) (λ d below few. absurd (let flat2 = first.depth in omega (arith, below, few, flat2)))
+
+-- ---- ids in a tree
+
+abbrev Once : List Row → Type 0
+Once rows = (n : ℕ) → count_of n rows ≤ 1
+
+abbrev OneId : List Row → Type 0
+OneId rows = (n m : ℕ) (name : List ℕ) → id_of n rows ≡ Some name → id_of m rows ≡ Some name → n ≡ m
+
+-- a row among others
+found-row : (front : List Row) (row : Row) (back : List Row) → Once (front ++ (row ∷ back)) → (count_of row.node.0 front ≡ 0) × (row_at row.node.0 (front ++ (row ∷ back)) ≡ Some row)
+found-row front row back once =
+    let one = once row.node.0 in
+    let all = count_of-append row.node.0 front (row ∷ back) in
+    let own : has_number row.node.0 row ≡ true = (Decides-eqb row.node.0 row.node.0).1 refl in
+    let here : count_of row.node.0 (row ∷ back) ≡ 1 + count_of row.node.0 back = ap (λ (b : Bool). cond {A = ℕ} b 1 0 + count_of row.node.0 back) own in
+    let none : count_of row.node.0 front ≡ 0 = omega (arith, one, all, here) in
+    (none, row_at-skip row.node.0 front (row ∷ back) none ∙ ap (λ (b : Bool). cond b (Some row) (row_at row.node.0 back)) own)
+
+any-found : (name : List ℕ) (rows : List Row) → list_any (has_id name) rows ≡ true → (front : List Row) × (row : Row) × (back : List Row) × (rows ≡ front ++ (row ∷ back)) × (row.id ≡ Some name)
+any-found name [] h = absurd (false≢true h)
+any-found name (r ∷ rows) h = by (has_id name r) refl h (any-found name rows)
+  where
+    by : (b : Bool) → has_id name r ≡ b → (b || list_any (has_id name) rows) ≡ true
+        → (list_any (has_id name) rows ≡ true → (front : List Row) × (row : Row) × (back : List Row) × (rows ≡ front ++ (row ∷ back)) × (row.id ≡ Some name))
+        → (front : List Row) × (row : Row) × (back : List Row) × (r ∷ rows ≡ front ++ (row ∷ back)) × (row.id ≡ Some name)
+    by true e g more = ([], r, rows, refl, id_from_test r.id name e)
+    by false e g more = let (front, row, back, is, id) = more g in (r ∷ front, row, back, ap (λ (z : List Row). r ∷ z) is, id)
+
+not_taken : (all before : List Row) (row : Row) (rows : List Row) → all ≡ before ++ (row ∷ rows) → Once all → OneId all → (id : Option (List ℕ)) → row.id ≡ id → (b : Bool) → is_taken id before ≡ b → b ≡ false
+not_taken all before row rows is once ids None e false g = refl
+not_taken all before row rows is once ids None e true g = absurd (false≢true g)
+not_taken all before row rows is once ids (Some name) e false g = refl
+not_taken all before row rows is once ids (Some name) e true g =
+    let (front, other, back, cut, id) = any-found name before g in
+    let whole : all ≡ front ++ (other ∷ (back ++ (row ∷ rows))) = is ∙ ap (λ (z : List Row). z ++ (row ∷ rows)) cut ∙ append_assoc front (other ∷ back) (row ∷ rows) in
+    let first = found-row front other (back ++ (row ∷ rows)) (subst Once whole once) in
+    let second = found-row before row rows (subst Once is once) in
+    let at_first : id_of other.node.0 all ≡ Some name = ap (id_of other.node.0) whole ∙ ap (option_and_then (λ (r : Row). r.id)) first.1 ∙ id in
+    let at_second : id_of row.node.0 all ≡ Some name = ap (id_of row.node.0) is ∙ ap (option_and_then (λ (r : Row). r.id)) second.1 ∙ e in
+    let same = ids other.node.0 row.node.0 name at_first at_second in
+    let none : count_of other.node.0 (front ++ (other ∷ back)) ≡ 0 = ap₂ count_of same (sym cut) ∙ second.0 in
+    let all_of = count_of-append other.node.0 front (other ∷ back) in
+    let own : has_number other.node.0 other ≡ true = (Decides-eqb other.node.0 other.node.0).1 refl in
+    let here : count_of other.node.0 (other ∷ back) ≡ 1 + count_of other.node.0 back = ap (λ (b : Bool). cond {A = ℕ} b 1 0 + count_of other.node.0 back) own in
+    absurd (omega (arith, none, all_of, here))
+
+pub ids-of : (all before rows : List Row) → all ≡ before ++ rows → Once all → OneId all → ids_differ before rows ≡ true
+ids-of all before [] is once ids = refl
+ids-of all before (row ∷ rows) is once ids =
+    both _ _ (ap not (not_taken all before row rows is once ids row.id refl (is_taken row.id before) refl))
+    (ids-of all (before ++ row ∷ []) rows (is ∙ sym (append_assoc before (row ∷ []) rows)) once ids)
+
+-- what is spelled so is read, as those rows
+pub reading-again : (bytes : List ℕ) (tree : TreeValue) → IsTree tree → IsReading bytes tree → tree_of bytes ≡ Ok tree.rows
+reading-again bytes tree whole reading =
+    let made = reading.made in
+    let few = whole.few in
+    ap tree_of reading.text ∙ file-again tree.rows (record {
+      preorder = preorder-some tree.rows whole.preorder;
+      typed = reading.typed;
+      spelled = reading.spelled;
+      fresh = reading.fresh;
+      ids = ids-of tree.rows [] tree.rows refl whole.once whole.one_id;
+      few = omega (arith, made, few);
+    }) whole.preorder
+
+pub gives-rows : (rows : List Row) (read : Result (List Row) LineFault) (r : Result TreeValue TreeFault) → read ≡ Ok rows → Reads read r → GivesRows rows r
+gives-rows rows read (Ok tree) e h = sym (ok-same (sym e ∙ h.0))
+gives-rows rows read (Err NoMemory) e h = refl
+gives-rows rows read (Err (Grammar line kind)) e h = ok-err (sym e ∙ h)
+gives-rows rows read (Err NoNode) e h = absurd h
+gives-rows rows read (Err DuplicateId') e h = absurd h
+gives-rows rows read (Err TooMany') e h = absurd h
+gives-rows rows read (Err TooDeep') e h = absurd h
+gives-rows rows read (Err Root) e h = absurd h
+gives-rows rows read (Err Leaf') e h = absurd h
+gives-rows rows read (Err NotSiblings) e h = absurd h
