@@ -1,5 +1,7 @@
 ghost use Rattle.std.specs.Prelude.{◌≡◌, IfOk};
 
+mod reading;
+
 use crate::write_tree;
 use std::alloc::{AllocError, Global};
 use std::test::Fail;
