@@ -479,3 +479,163 @@ gives-rows rows read (Err TooDeep') e h = absurd h
 gives-rows rows read (Err Root) e h = absurd h
 gives-rows rows read (Err Leaf') e h = absurd h
 gives-rows rows read (Err NotSiblings) e h = absurd h
+
+-- ---- rows numbered anew
+
+-- a row that is read again is spelled as before
+kept-part : (kind : Kind) (size : ℕ) (private : Private) → private_is_spelled kind private ≡ true → (private_part (kept kind size private) ≡ private_part private) × (private_is_spelled kind (kept kind size private) ≡ true) × (kept kind size (kept kind size private) ≡ kept kind size private)
+kept-part Checkbox size (On b) h = (refl, refl, refl)
+kept-part ProgressBar size (Bar done total) h = (refl, h, refl)
+kept-part Input size (Cursor place) h = (refl, refl, refl)
+kept-part OptionList size (Chosen line) h = (refl, refl, refl)
+kept-part Checkbox size Plain h = absurd (false≢true h)
+kept-part Checkbox size (Cursor place) h = absurd (false≢true h)
+kept-part Checkbox size (Chosen line) h = absurd (false≢true h)
+kept-part Checkbox size (Bar done total) h = absurd (false≢true h)
+kept-part ProgressBar size Plain h = absurd (false≢true h)
+kept-part ProgressBar size (Cursor place) h = absurd (false≢true h)
+kept-part ProgressBar size (On b) h = absurd (false≢true h)
+kept-part ProgressBar size (Chosen line) h = absurd (false≢true h)
+kept-part Input size Plain h = absurd (false≢true h)
+kept-part Input size (On b) h = absurd (false≢true h)
+kept-part Input size (Chosen line) h = absurd (false≢true h)
+kept-part Input size (Bar done total) h = absurd (false≢true h)
+kept-part OptionList size Plain h = absurd (false≢true h)
+kept-part OptionList size (Cursor place) h = absurd (false≢true h)
+kept-part OptionList size (On b) h = absurd (false≢true h)
+kept-part OptionList size (Bar done total) h = absurd (false≢true h)
+kept-part Screen size Plain h = (refl, refl, refl)
+kept-part Screen size (Cursor place) h = absurd (false≢true h)
+kept-part Screen size (On b) h = absurd (false≢true h)
+kept-part Screen size (Chosen line) h = absurd (false≢true h)
+kept-part Screen size (Bar done total) h = absurd (false≢true h)
+kept-part Container size Plain h = (refl, refl, refl)
+kept-part Container size (Cursor place) h = absurd (false≢true h)
+kept-part Container size (On b) h = absurd (false≢true h)
+kept-part Container size (Chosen line) h = absurd (false≢true h)
+kept-part Container size (Bar done total) h = absurd (false≢true h)
+kept-part Vertical size Plain h = (refl, refl, refl)
+kept-part Vertical size (Cursor place) h = absurd (false≢true h)
+kept-part Vertical size (On b) h = absurd (false≢true h)
+kept-part Vertical size (Chosen line) h = absurd (false≢true h)
+kept-part Vertical size (Bar done total) h = absurd (false≢true h)
+kept-part Horizontal size Plain h = (refl, refl, refl)
+kept-part Horizontal size (Cursor place) h = absurd (false≢true h)
+kept-part Horizontal size (On b) h = absurd (false≢true h)
+kept-part Horizontal size (Chosen line) h = absurd (false≢true h)
+kept-part Horizontal size (Bar done total) h = absurd (false≢true h)
+kept-part Grid size Plain h = (refl, refl, refl)
+kept-part Grid size (Cursor place) h = absurd (false≢true h)
+kept-part Grid size (On b) h = absurd (false≢true h)
+kept-part Grid size (Chosen line) h = absurd (false≢true h)
+kept-part Grid size (Bar done total) h = absurd (false≢true h)
+kept-part VerticalScroll size Plain h = (refl, refl, refl)
+kept-part VerticalScroll size (Cursor place) h = absurd (false≢true h)
+kept-part VerticalScroll size (On b) h = absurd (false≢true h)
+kept-part VerticalScroll size (Chosen line) h = absurd (false≢true h)
+kept-part VerticalScroll size (Bar done total) h = absurd (false≢true h)
+kept-part Static size Plain h = (refl, refl, refl)
+kept-part Static size (Cursor place) h = absurd (false≢true h)
+kept-part Static size (On b) h = absurd (false≢true h)
+kept-part Static size (Chosen line) h = absurd (false≢true h)
+kept-part Static size (Bar done total) h = absurd (false≢true h)
+kept-part Label size Plain h = (refl, refl, refl)
+kept-part Label size (Cursor place) h = absurd (false≢true h)
+kept-part Label size (On b) h = absurd (false≢true h)
+kept-part Label size (Chosen line) h = absurd (false≢true h)
+kept-part Label size (Bar done total) h = absurd (false≢true h)
+kept-part Button size Plain h = (refl, refl, refl)
+kept-part Button size (Cursor place) h = absurd (false≢true h)
+kept-part Button size (On b) h = absurd (false≢true h)
+kept-part Button size (Chosen line) h = absurd (false≢true h)
+kept-part Button size (Bar done total) h = absurd (false≢true h)
+kept-part Header size Plain h = (refl, refl, refl)
+kept-part Header size (Cursor place) h = absurd (false≢true h)
+kept-part Header size (On b) h = absurd (false≢true h)
+kept-part Header size (Chosen line) h = absurd (false≢true h)
+kept-part Header size (Bar done total) h = absurd (false≢true h)
+kept-part Footer size Plain h = (refl, refl, refl)
+kept-part Footer size (Cursor place) h = absurd (false≢true h)
+kept-part Footer size (On b) h = absurd (false≢true h)
+kept-part Footer size (Chosen line) h = absurd (false≢true h)
+kept-part Footer size (Bar done total) h = absurd (false≢true h)
+kept-part (Handed name) size Plain h = (refl, refl, refl)
+kept-part (Handed name) size (Cursor place) h = absurd (false≢true h)
+kept-part (Handed name) size (On b) h = absurd (false≢true h)
+kept-part (Handed name) size (Chosen line) h = absurd (false≢true h)
+kept-part (Handed name) size (Bar done total) h = absurd (false≢true h)
+
+line-same : (n : ℕ) (row : Row) → is_typed row ≡ true → is_spelled row ≡ true → (row_lines (read_row n row) ≡ row_lines row) × (is_spelled (read_row n row) ≡ true) × (read_row n (read_row n row) ≡ read_row n row)
+line-same n row t s =
+    let parts = has-parts row t s in
+    let (part, spelled, twice) = kept-part row.kind (length row.text) row.private parts.private_spelled in (
+      ap (λ (z : List ℕ). (indent row.depth ++ ((kind_name row.kind ++ (id_part row.id ++ (class_parts row.classes.names ++ (disabled_part row.disabled ++ (z ++ (text_part row.text ++ inline_part row.inline)))))) ++ codes "\n")) ++ flat_map (bind_line row.depth) row.binds) part,
+      both _ _ parts.once (both _ _ parts.kind_spelled (both _ _ parts.text_spelled (both _ _ parts.inline_spelled (both _ _ parts.binds_spelled spelled)))),
+      ap (λ (p : Private). record (read_row n row) { private = p }) twice,
+    )
+
+-- what holds of the rows that are read again
+pub record IsRead (n : ℕ) (rows : List Row) : Type 0 where
+  pub typed : list_all is_typed (read_again n rows) ≡ true
+  pub spelled : list_all is_spelled (read_again n rows) ≡ true
+  pub text : spelling (read_again n rows) ≡ spelling rows
+  pub fresh : read_again n rows ≡ read_again n (read_again n rows)
+  pub size : length (read_again n rows) ≡ length rows
+  pub names : map (λ row. row.id) (read_again n rows) ≡ map (λ row. row.id) rows
+
+is-read : (n : ℕ) (rows : List Row) → list_all is_typed rows ≡ true → list_all is_spelled rows ≡ true → IsRead n rows
+is-read n [] t s = record { typed = refl; spelled = refl; text = refl; fresh = refl; size = refl; names = refl }
+is-read n (row ∷ rows) t s =
+    let (line, spelled, twice) = line-same n row (and-left _ _ t) (and-left _ _ s) in
+    let more = is-read (n + 1) rows (and-right (is_typed row) _ t) (and-right (is_spelled row) _ s) in
+    record {
+      typed = both _ _ (and-left _ _ t) more.typed;
+      spelled = both _ _ spelled more.spelled;
+      text = ap₂ (λ (x y : List ℕ). x ++ y) line more.text;
+      fresh = ap₂ (λ (x : Row) (xs : List Row). x ∷ xs) (sym twice) more.fresh;
+      size = ap suc more.size;
+      names = ap (λ z. row.id ∷ z) more.names;
+    }
+
+-- whether an id is taken is a matter of the ids alone
+any-ids : (name : List ℕ) (rows : List Row) → list_any (has_id name) rows ≡ list_any (λ id. option_eq bytes_eq id (Some name)) (map (λ row. row.id) rows)
+any-ids name [] = refl
+any-ids name (row ∷ rows) = ap (λ (b : Bool). has_id name row || b) (any-ids name rows)
+
+taken-same : (id : Option (List ℕ)) (xs ys : List Row) → map (λ row. row.id) xs ≡ map (λ row. row.id) ys → is_taken id xs ≡ is_taken id ys
+taken-same None xs ys e = refl
+taken-same (Some name) xs ys e = any-ids name xs ∙ ap (list_any (λ id. option_eq bytes_eq id (Some name))) e ∙ sym (any-ids name ys)
+
+ids-map : (xs : List Row) (x : Row) → map (λ row. row.id) (xs ++ x ∷ []) ≡ map (λ row. row.id) xs ++ x.id ∷ []
+ids-map [] x = refl
+ids-map (y ∷ xs) x = ap (λ z. y.id ∷ z) (ids-map xs x)
+
+ids-same : (n : ℕ) (xs ys rows : List Row) → map (λ row. row.id) xs ≡ map (λ row. row.id) ys → ids_differ ys rows ≡ true → ids_differ xs (read_again n rows) ≡ true
+ids-same n xs ys [] e h = refl
+ids-same n xs ys (row ∷ rows) e h =
+    both _ _ (ap not (taken-same row.id xs ys e) ∙ and-left _ _ h)
+    (ids-same (n + 1) (xs ++ read_row n row ∷ []) (ys ++ row ∷ []) rows (ids-map xs (read_row n row) ∙ ap (λ z. z ++ row.id ∷ []) e ∙ sym (ids-map ys row)) (and-right (not (is_taken row.id ys)) _ h))
+
+follow-same : (n m : ℕ) (last : Row) (rows : List Row) → MayAllFollow last rows → MayAllFollow (read_row n last) (read_again m rows)
+follow-same n m last [] h = tt
+follow-same n m last (row ∷ rows) h =
+    let f = h.0 in
+    (record { below_first = f.below_first; shallow = f.shallow; step = f.step; held = f.held; no_screen = f.no_screen }, follow-same m (m + 1) row rows h.1)
+
+preorder-same : (rows : List Row) → IsPreorder rows → IsPreorder (read_again 1 rows)
+preorder-same [] h = h
+preorder-same (row ∷ rows) h = let f = h.0 in (record { number = refl; depth = f.depth; screen = f.screen }, follow-same 1 2 row rows h.1)
+
+pub again-law : (tree : TreeValue) → IsTree tree → list_all is_typed tree.rows ≡ true → list_all is_spelled tree.rows ≡ true → length tree.rows ≤ 65536 → tree_of (spelling tree.rows) ≡ Ok (read_again 1 tree.rows)
+again-law tree whole typed spelled few =
+    let is = is-read 1 tree.rows typed spelled in
+    let size = is.size in
+    let preorder = preorder-same tree.rows whole.preorder in
+    ap tree_of (sym is.text) ∙ file-again (read_again 1 tree.rows) (record {
+      preorder = preorder-some (read_again 1 tree.rows) preorder;
+      typed = is.typed;
+      spelled = is.spelled;
+      fresh = is.fresh;
+      ids = ids-same 1 [] [] tree.rows refl (ids-of tree.rows [] tree.rows refl whole.once whole.one_id);
+      few = omega (arith, size, few);
+    }) preorder

@@ -6,3 +6,9 @@ ghost use Rattle.tx_tree_file.specs.Laws.{OneText, ReadAgain};
 pub fn one_text()
     ensures { OneText }
 {}
+
+/// What is written is read again, as the same rows with nodes numbered anew and what a file keeps
+/// of their state.
+pub fn read_again()
+    ensures { ReadAgain }
+{}

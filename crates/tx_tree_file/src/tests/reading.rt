@@ -286,8 +286,8 @@ fn an_application(rt: HostRuntime) -> Result<(), Fail> {
     Err(Fail::from("other numbers"))
 }
 
-fn refused<T: Drop>(result: Result<T, TreeFault>, wanted: TreeFault) -> Result<(), Fail> {
-    match result {
+fn refused<T: Drop>(answer: Result<T, TreeFault>, wanted: TreeFault) -> Result<(), Fail> {
+    match answer {
         Err(fault) if fault == wanted => Ok(()),
         _ => Err(Fail::from("another answer")),
     }

@@ -1,6 +1,5 @@
 use Rattle.std.proofs.Common.{sym, ◌∙◌}
 use Rattle.tx_tree_file.proofs.Whole.{file-found}
-use Rattle.tx_tree_file.proofs.Faults.{fault-behind}
 use Rattle.tx_tree_file.proofs.laws.one_text.Goals as goal
 
 pub returns : goal.returns
