@@ -1,10 +1,8 @@
 -- What is spelled is read again, the whole file.
-use Rattle.std.proofs.Common.{◌≡◌, ℕ, zero, suc, ◌+◌, ◌-◌, ◌*◌, ◌/◌, ◌%◌, ◌<◌, ◌≤◌, ◌==◌, ◌&&◌, ◌||◌, Bool, true, false, cond, not, nat_le, List, [], ◌∷◌, ◌++◌, length, drop, replicate, flat_map, fold, sum_by, Option, Some, None, Result, Ok, Err, refl, ap, ap₂, sym, subst, subst₂, ◌∙◌, arith, append_assoc, append-nil, length-append, ◌≢◌, ◌⊎◌, inl, inr, ⊎_elim, codes, add-one}
+use Rattle.std.proofs.Common.{◌≡◌, ℕ, zero, suc, ◌+◌, ◌*◌, ◌≤◌, ◌==◌, ◌&&◌, ◌||◌, Bool, true, false, cond, not, nat_le, List, [], ◌∷◌, ◌++◌, length, replicate, flat_map, Option, Some, None, Result, Ok, Err, refl, ap, ap₂, sym, subst, ◌∙◌, arith, append_assoc, append-nil, length-append, codes}
 use Rattle.std.specs.List.{list_all}
 use Rattle.std.specs.Option.{option_map_or}
-use Rattle.std.specs.Str.{is_utf8}
-use Rattle.std.proofs.lemmas.Bool.{false≢true, eqb-true, ne_eqb}
-use Rattle.std.proofs.lemmas.Grind.{flat_map-append}
+use Rattle.std.proofs.lemmas.Bool.{false≢true, ne_eqb}
 use Rattle.tx_read.specs.Pieces.{pieces, onto}
 use Rattle.tx_tree.proofs.NameBytes.{and-left, and-right}
 use Rattle.tx_tree.specs.Kind.{is_screen, holds_children}
@@ -12,42 +10,33 @@ use Rattle.tx_tree.specs.Mount.{is_taken}
 use Rattle.tx_tree.specs.Row.{placed}
 use Rattle.tx_tree.specs.Rows.{last_above}
 use Rattle.tx_tree.specs.Name.{is_name}
-use Rattle.tx_tree.specs.Spelled.{is_spelled, key_is_spelled, no_line_feed, byte_is_spelled, no_repeats, kind_is_spelled, private_is_spelled}
-use Rattle.tx_tree.specs.WellFormed.{MayFollow, MayAllFollow, IsFirst, IsPreorder}
+use Rattle.tx_tree.specs.Spelled.{is_spelled, key_is_spelled, no_line_feed, private_is_spelled}
+use Rattle.tx_tree.specs.WellFormed.{MayFollow, MayAllFollow, IsPreorder}
 use Rattle.tx_tree.specs.TreeValue.{TreeValue}
 use Rattle.tx_tree.specs.declared.bind.Bind.{Bind}
 use Rattle.tx_tree.specs.declared.fault.TreeFault.{TreeFault}
 use Rattle.tx_tree.specs.declared.fault.TreeFault.TheVariants.{Grammar, NoNode, DuplicateId as DuplicateId', TooMany as TooMany', TooDeep as TooDeep', Root, Leaf as Leaf', NotSiblings, NoMemory}
 use Rattle.tx_tree.specs.declared.fault.TreeKind.{TreeKind}
-use Rattle.tx_tree.specs.declared.fault.TreeKind.TheVariants.{BadByte, BadIndent, TooDeep, Expected, Leaf, TooMany, DuplicateId}
+use Rattle.tx_tree.specs.declared.fault.TreeKind.TheVariants.{BadByte, BadIndent, Expected}
 use Rattle.tx_tree.specs.declared.row.NewRow.{NewRow}
 use Rattle.tx_tree.specs.declared.row.Row.{Row}
-use Rattle.tx_tree_file.proofs.FoundLines.{IsRowText, row-found, IsBindText, bind-found, all-behind}
 use Rattle.tx_tree_file.proofs.FoundParts.{both}
-use Rattle.tx_tree_file.proofs.Fronts.{same-byte, some-same, none-some}
-use Rattle.tx_tree_file.proofs.Growing.{above_front, all-snoc}
-use Rattle.tx_tree_file.proofs.LastRows.{ok-same, err-ok, ifs, ended-inv, item-inv, is_bind, is_widget, IsItem, IsRowItem, row_item-inv, other_than, some_piece}
-use Rattle.tx_tree_file.proofs.Repeats.{not_true}
-use Rattle.tx_tree_file.specs.FirstFault.{ids_differ, is_held, line_count, IsPreorderOrNone, IsBegun, last_row, SpellsRow, SpellsBind, IsIndented, IsPlaced, IsRowLine, IsNothing, Breaks, is_line_end, is_ended, IsFirstFault, IsFaultOf}
-use Rattle.tx_tree_file.proofs.AgainLines.{encode-all, row-utf8, HasParts, has-parts, row-begins, blanks-again, row-again, row_line-again, bind_line-again, new_of, BeginsOther}
-use Rattle.tx_tree_file.proofs.LastRows.{stands-inv}
-use Rattle.tx_tree_file.proofs.Whole.{Stands, ends-preorder, ids-snoc, again-snoc, blanks_split, indented, with_new-inv, IsAllowed, IsNext, next-found, IsFirstItem, first-inv, first-stands, first-text, first-read, joined, joined-pieces, pieces-whole, or-inv, count-last}
-use Rattle.tx_tree_file.specs.Indent.{may_indent, is_too_deep, starts_bind, blanks, past_blanks, is_bind_line, may_stand}
+use Rattle.tx_tree_file.proofs.LastRows.{ok-same}
+use Rattle.tx_tree_file.specs.FirstFault.{ids_differ, is_held, IsBegun}
+use Rattle.tx_tree_file.proofs.AgainLines.{encode-all, row-utf8, HasParts, has-parts, row-begins, blanks-again, row-again, row_line-again, bind_line-again, new_of}
+use Rattle.tx_tree_file.proofs.Whole.{first-read}
+use Rattle.tx_tree_file.specs.Indent.{blanks}
 use Rattle.tx_tree_file.specs.Spelling.{indent, row_text, row_line, bind_text, bind_line, row_lines, spelling}
 use Rattle.tx_tree_file.specs.TreeFile.{is_typed, bind_is_typed, kind_is_typed, id_is_typed, kept, read_row, read_again, IsReading}
-use Rattle.tx_tree_file.specs.TreeReading.{Begun, LineFault, screen, first_item, with_first, first_line, binding, widget, bind_item, row_item, item_of, row_of, bind_of, with_bind, with_new, with_item, next_line, or_fault, is_empty, rows_behind, rows_so_far, rows_of_lines, tree_of, Tells, FaultIs, Reads, GivesRows}
-use Rattle.tx_tree_file.specs.declared.line.Item.{Item}
-use Rattle.tx_tree_file.specs.declared.line.Item.TheVariants.{Binding, Widget}
-
-
+use Rattle.tx_tree_file.specs.TreeReading.{Begun, LineFault, screen, first_item, row_of, with_bind, with_new, or_fault, rows_behind, tree_of, Reads, GivesRows}
 use Rattle.std.specs.Char.{is_ascii_digit}
 use Rattle.std.specs.List.{list_any}
 use Rattle.std.specs.Option.{option_eq}
-use Rattle.std.proofs.Common.{nat_lt, decimal, bytes_eq, map, filter, option_and_then, encode_utf8}
-use Rattle.std.proofs.lemmas.Bool.{leb-true, leb-false, ltb-true}
+use Rattle.std.proofs.Common.{decimal, bytes_eq, map, option_and_then, encode_utf8}
+use Rattle.std.proofs.lemmas.Bool.{leb-true, leb-false}
 use Rattle.std.proofs.lemmas.Bool.Decides.{nat_tests, Decides-eqb}
 use Rattle.std.proofs.lemmas.Str.{is_utf8-from_IsUtf8}
-use Rattle.tx_tree.proofs.Ids.{id_from_test, test_from_id}
+use Rattle.tx_tree.proofs.Ids.{id_from_test}
 use Rattle.tx_tree.proofs.RowLists.{count_of-append, row_at-skip}
 use Rattle.tx_tree.specs.Kind.{kind_name}
 use Rattle.tx_tree.specs.Name.{begins_name, continues_name}
@@ -65,7 +54,7 @@ use Rattle.tx_tree.specs.declared.kind.Private.{Private}
 use Rattle.tx_tree.specs.declared.kind.Private.TheVariants.{Plain, Cursor, On, Chosen, Bar}
 use Rattle.tx_tree_file.proofs.AgainParts.{decimal-digits, not_inv}
 use Rattle.tx_tree_file.proofs.Faults.{ok-err, preorder-some}
-use Rattle.tx_tree_file.proofs.LastRows.{bind_line_read, row_line_read, one_bind_more}
+use Rattle.tx_tree_file.proofs.LastRows.{bind_line_read, row_line_read}
 use Rattle.tx_tree_file.specs.Sections.{with_binds}
 use Rattle.tx_tree_file.specs.Spelling.{id_part, class_part, class_parts, disabled_part, private_part, escaped, text_part, inline_part, key_name, action_name, priority_part}
 use Rattle.tx_tree_file.specs.TreeFile.{action_is_typed, key_is_typed}
@@ -270,9 +259,9 @@ binds-again (bind ∷ binds) rest done before last h t =
     let line = indent (last.depth + 1) ++ bind_text bind in
     let more = flat_map (bind_line last.depth) binds ++ rest in
     let text : (bind_line last.depth bind ++ flat_map (bind_line last.depth) binds) ++ rest ≡ line ++ (10 ∷ more) =
-      append_assoc (bind_line last.depth bind) (flat_map (bind_line last.depth) binds) rest
-      ∙ ap (λ (z : List ℕ). z ++ more) (sym (append_assoc (indent (last.depth + 1)) (bind_text bind) (codes "\n")))
-      ∙ append_assoc line (codes "\n") more in
+    append_assoc (bind_line last.depth bind) (flat_map (bind_line last.depth) binds) rest
+    ∙ ap (λ (z : List ℕ). z ++ more) (sym (append_assoc (indent (last.depth + 1)) (bind_text bind) (codes "\n")))
+    ∙ append_assoc line (codes "\n") more in
     let number : done + 1 + length binds ≡ done + length (bind ∷ binds) = omega arith in
     ap (λ (z : List ℕ). rows_behind (pieces 10 z) done (record { before = before; last = last })) text
     ∙ bind_line_read (line ++ (10 ∷ more)) line more done before last bind (cut-again line more (bind-free last.depth bind spelled typed)) (bind_line-again last.depth bind spelled typed)
@@ -323,11 +312,14 @@ again-head n row rows h = (head (row ∷ rows) (read_again n (row ∷ rows)) h, 
     head_or : List Row → Row
     head_or [] = row
     head_or (r ∷ rs) = r
+
     tail_or : List Row → List Row
     tail_or [] = []
     tail_or (r ∷ rs) = rs
+
     head : (xs ys : List Row) → xs ≡ ys → head_or xs ≡ head_or ys
     head xs ys e = ap head_or e
+
     tail : (xs ys : List Row) → xs ≡ ys → tail_or xs ≡ tail_or ys
     tail xs ys e = ap tail_or e
 
@@ -353,20 +345,20 @@ rows-again (row ∷ rows) done before last follow deep typed spelled fresh ids f
     let (same, rest) = again-head (length before + 2) row rows fresh in
     let number : length before + 2 ≡ length so_far + 1 = omega (arith, size) in
     let text : spelling (row ∷ rows) ≡ line ++ (10 ∷ more) =
-      append_assoc (row_line row) (flat_map (bind_line row.depth) row.binds) (spelling rows)
-      ∙ ap (λ (z : List ℕ). z ++ more) (sym (append_assoc (indent row.depth) (row_text row) (codes "\n")))
-      ∙ append_assoc line (codes "\n") more in
+    append_assoc (row_line row) (flat_map (bind_line row.depth) row.binds) (spelling rows)
+    ∙ ap (λ (z : List ℕ). z ++ more) (sym (append_assoc (indent row.depth) (row_text row) (codes "\n")))
+    ∙ append_assoc line (codes "\n") more in
     let below = f.below_first in
     let step = f.step in
     let shallow = f.shallow in
     ap (λ (z : List ℕ). rows_behind (pieces 10 z) done (record { before = before; last = last })) text
     ∙ row_line_read (line ++ (10 ∷ more)) line more done row.depth before last (new_of row) (cut-again line more (row-free row parts)) (row_line-again last.depth row.depth row parts f.no_screen below shallow step)
     ∙ ap (λ (r : Result Begun TreeKind). or_fault (done + 1) r (rows_behind (pieces 10 more) (done + 1))) (with_new-again so_far row.depth (new_of row) (held-here before last row held f)
-        (ne_eqb (length so_far) 65536 (λ full. absurd (omega (arith, full, size, few)))) (not_inv (is_taken row.id so_far) (and-left _ _ ids)))
+    (ne_eqb (length so_far) 65536 (λ full. absurd (omega (arith, full, size, few)))) (not_inv (is_taken row.id so_far) (and-left _ _ ids)))
     ∙ binds-again row.binds (spelling rows) (done + 1) so_far (placed (new_of row) (length so_far + 1) row.depth) parts.binds_spelled parts.binds_typed
     ∙ ap (λ (z : Row). rows_behind (pieces 10 (spelling rows)) (done + 1 + length row.binds) (record { before = so_far; last = z })) (row-whole (length so_far + 1) row (same ∙ ap (λ (n : ℕ). read_row n row) number))
     ∙ rows-again rows (done + 1 + length row.binds) so_far row follow.1 shallow (and-right (is_typed row) _ typed) (and-right (is_spelled row) _ spelled)
-        (rest ∙ ap (λ (n : ℕ). read_again n rows) (omega (arith, size))) (and-right (not (is_taken row.id so_far)) _ ids) (omega (arith, size, few)) (held-more so_far row (held-next before last row held f))
+    (rest ∙ ap (λ (n : ℕ). read_again n rows) (omega (arith, size))) (and-right (not (is_taken row.id so_far)) _ ids) (omega (arith, size, few)) (held-more so_far row (held-next before last row held f))
     ∙ ap Ok (append_assoc so_far (row ∷ []) rows)
 
 -- ---- the first line
@@ -388,9 +380,9 @@ file-again (row ∷ rows) h p =
     let more = flat_map (bind_line row.depth) row.binds ++ spelling rows in
     let flat : indent row.depth ≡ [] = ap indent first.depth in
     let text : spelling (row ∷ rows) ≡ row_text row ++ (10 ∷ more) =
-      append_assoc (row_line row) (flat_map (bind_line row.depth) row.binds) (spelling rows)
-      ∙ ap (λ (z : List ℕ). (z ++ (row_text row ++ codes "\n")) ++ more) flat
-      ∙ append_assoc (row_text row) (codes "\n") more in
+    append_assoc (row_line row) (flat_map (bind_line row.depth) row.binds) (spelling rows)
+    ∙ ap (λ (z : List ℕ). (z ++ (row_text row ++ codes "\n")) ++ more) flat
+    ∙ append_assoc (row_text row) (codes "\n") more in
     let free : Free (row_text row) = ap (λ (z : List ℕ). list_all no_line_feed (z ++ row_text row)) (sym flat) ∙ row-free row parts in
     let (same, rest) = again-head 1 row rows h.fresh in
     let few = h.few in
@@ -400,7 +392,7 @@ file-again (row ∷ rows) h p =
     ∙ binds-again row.binds (spelling rows) 1 [] (placed (new_of row) 1 row.depth) parts.binds_spelled parts.binds_typed
     ∙ ap (λ (z : Row). rows_behind (pieces 10 (spelling rows)) (1 + length row.binds) (record { before = []; last = z })) (row-whole 1 row same)
     ∙ rows-again rows (1 + length row.binds) [] row p.1 (let d = first.depth in omega (arith, d)) (and-right (is_typed row) _ h.typed) (and-right (is_spelled row) _ h.spelled) rest
-        (and-right (not (is_taken row.id [])) _ h.ids) (omega (arith, few)) (λ d below few. absurd (let flat2 = first.depth in omega (arith, below, few, flat2)))
+    (and-right (not (is_taken row.id [])) _ h.ids) (omega (arith, few)) (λ d below few. absurd (let flat2 = first.depth in omega (arith, below, few, flat2)))
 
 -- ---- ids in a tree
 

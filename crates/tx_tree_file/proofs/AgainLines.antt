@@ -1,20 +1,18 @@
 -- What is spelled is read again, line by line.
-use Rattle.std.proofs.Common.{◌≡◌, ℕ, zero, suc, ◌+◌, ◌-◌, ◌*◌, ◌/◌, ◌%◌, ◌<◌, ◌≤◌, ◌==◌, ◌&&◌, ◌||◌, ◌^◌, Bool, true, false, cond, not, nat_le, nat_lt, List, [], ◌∷◌, ◌++◌, length, take, drop, flat_map, find, map, Option, Some, None, option_map, option_and_then, refl, ap, ap₂, sym, subst, ◌∙◌, arith, append_assoc, append-nil, length-append, codes, decimal, chars, bytes_eq, encode_utf8, encode_utf8_all, IsUtf8, drop_at, take_at, lit<}
+use Rattle.std.proofs.Common.{◌≡◌, ℕ, zero, suc, ◌+◌, ◌*◌, ◌/◌, ◌%◌, ◌<◌, ◌≤◌, ◌==◌, ◌&&◌, ◌^◌, Bool, true, false, cond, not, nat_le, nat_lt, List, [], ◌∷◌, ◌++◌, length, drop, flat_map, find, Option, Some, None, option_map, option_and_then, refl, ap, ap₂, sym, subst, ◌∙◌, arith, append-nil, codes, decimal, chars, bytes_eq, encode_utf8, encode_utf8_all, IsUtf8, lit<}
 use Rattle.std.specs.Char.{is_ascii_digit, encode_utf8 as encode}
-use Rattle.std.specs.List.{list_all, list_any}
+use Rattle.std.specs.List.{list_all}
 use Rattle.std.specs.Str.{is_utf8, all_scalars}
 use Rattle.std.proofs.lemmas.Bool.{false≢true, ne_eqb, le-leb, leb-true, lt-ltb, ltb-true, ltb-false}
 use Rattle.std.proofs.lemmas.Bool.Decides.{nat_tests, Decides-eqb}
-use Rattle.std.proofs.lemmas.Fmt.{decimal_by_steps, decimal_nonempty, IsAscii-decimal}
+use Rattle.std.proofs.lemmas.Fmt.{decimal_nonempty}
 use Rattle.std.proofs.lemmas.Grind.{flat_map-append}
-use Rattle.std.proofs.lemmas.Slice.Eq.{bytes_eq-Decides}
 use Rattle.std.proofs.lemmas.Str.{IsUtf8-from_is_utf8, is_utf8-from_IsUtf8, IsUtf8-from_ascii, IsUtf8-append, IsUtf8-nil, IsUtf8-encode, encode_ascii, chars_from_encodes, chars-IsAscii}
-use Rattle.tx_read.specs.Number.{number_at_most, is_number, value, value_behind}
 use Rattle.tx_read.specs.Pieces.{behind}
 use Rattle.tx_tree.proofs.NameBytes.{and-left, and-right}
-use Rattle.tx_tree.specs.Kind.{kind_name, fresh}
-use Rattle.tx_tree.specs.Name.{is_name, begins_name, continues_name}
-use Rattle.tx_tree.specs.Spelled.{begins_capital, no_repeats, byte_is_spelled, key_is_spelled, kind_is_spelled, is_built_in, container_names, leaf_names, private_is_spelled, is_plain as is_plain_state, is_cursor, is_on, is_chosen, is_bar}
+use Rattle.tx_tree.specs.Kind.{kind_name}
+use Rattle.tx_tree.specs.Name.{is_name}
+use Rattle.tx_tree.specs.Spelled.{begins_capital, no_repeats, byte_is_spelled, key_is_spelled, kind_is_spelled, private_is_spelled}
 use Rattle.tx_tree.specs.declared.bind.Action.{Action}
 use Rattle.tx_tree.specs.declared.bind.Action.TheVariants.{FocusNext, FocusPrevious, ToggleDark, ToggleClass, Scroll}
 use Rattle.tx_tree.specs.declared.bind.Jump.TheVariants.{Up as JumpUp, Down as JumpDown, Home as JumpHome, End as JumpEnd, PageUp as JumpPageUp, PageDown as JumpPageDown}
@@ -24,32 +22,26 @@ use Rattle.tx_tree.specs.declared.kind.Kind.{Kind}
 use Rattle.tx_tree.specs.declared.kind.Kind.TheVariants.{Screen, Container, Vertical, Horizontal, Grid, VerticalScroll, Static, Label, Button, Checkbox, Input, OptionList, ProgressBar, Header, Footer, Handed}
 use Rattle.tx_tree.specs.declared.kind.Private.{Private}
 use Rattle.tx_tree.specs.declared.kind.Private.TheVariants.{Plain, Cursor, On, Chosen, Bar}
-use Rattle.tx_tree_file.proofs.AgainParts.{Later, Stops, weaken, word-again, no_blank, name-no_blank, named, later-stops, id-later, id-again, classes-later, class_list-again, disabled-later, disabled-again, private-later, IsStateAgain, private-again, number-again, decimal-no_blank, decimal-digits, same-bytes, text-later, inline-later, text-again, inline-again, name-is_utf8, kind-again, not_inv}
+use Rattle.tx_tree_file.proofs.AgainParts.{word-again, no_blank, name-no_blank, named, later-stops, id-later, id-again, classes-later, class_list-again, disabled-later, disabled-again, private-later, private-again, number-again, decimal-no_blank, decimal-digits, same-bytes, text-later, inline-later, text-again, inline-again, kind-again}
 use Rattle.tx_tree_file.proofs.FoundParts.{both}
-use Rattle.tx_tree_file.proofs.Fronts.{some-same, none-some, same-byte, self-byte, behind-front}
+use Rattle.tx_tree_file.proofs.Fronts.{none-some, same-byte, self-byte}
 use Rattle.tx_tree_file.proofs.Utf8Lemmas.{name_utf8}
-use Rattle.tx_tree_file.specs.Parts.{word, past_word, name_of, flag, flag_by, built_in, or_handed, kind_of, id_of, id_by, classes_within, class_by, classes_of, is_total, total_of, bar_by, box_by, private_of, unescaped, is_plain, put_front, quoted, some_text, text_by, text_of, before_brace, inline_by, inline_of, named_keys, function_by, function_of, control_of, or_key, long_key, only_char, char_key, key_by, key_of, named_actions, or_toggle, action_of}
+use Rattle.tx_tree_file.specs.Parts.{word, flag, flag_by, kind_of, id_of, classes_of, private_of, text_of, inline_of, function_by, or_key, long_key, only_char, key_by, key_of, named_actions, or_toggle, action_of}
 use Rattle.tx_tree_file.specs.Spelling.{id_part, class_part, class_parts, disabled_part, private_part, escaped, text_part, inline_part, key_name, action_name}
 use Rattle.tx_tree_file.specs.TreeFile.{id_is_typed, kind_is_typed, key_is_typed, action_is_typed, kept}
-
 use Rattle.std.specs.Char.{is_ascii_uppercase}
-use Rattle.std.proofs.lemmas.Str.{IsAscii-append}
-use Rattle.tx_tree.proofs.NameBytes.{IsAscii-name}
 use Rattle.tx_tree.specs.Kind.{is_screen}
-use Rattle.tx_tree.specs.Row.{placed}
 use Rattle.tx_tree.specs.Spelled.{is_spelled, no_line_feed}
 use Rattle.tx_tree.specs.declared.bind.Bind.{Bind}
-use Rattle.tx_tree.specs.declared.fault.TreeKind.{TreeKind}
 use Rattle.tx_tree.specs.declared.fault.TreeKind.TheVariants.{BadByte, BadIndent, TooDeep, Expected}
 use Rattle.tx_tree.specs.declared.row.NewRow.{NewRow}
 use Rattle.tx_tree.specs.declared.row.Row.{Row}
-use Rattle.std.proofs.Common.{IsAscii, replicate, get_or, Result, Ok, Err, add-one}
+use Rattle.std.proofs.Common.{IsAscii, replicate, Ok, Err, add-one}
 use Rattle.tx_tree_file.proofs.Fronts.{front_of}
 use Rattle.tx_tree_file.specs.Indent.{blanks, past_blanks, starts_bind, ends_word, is_bind_line, may_stand}
 use Rattle.tx_tree_file.specs.Spelling.{indent, row_text, bind_text, priority_part}
 use Rattle.tx_tree_file.specs.TreeFile.{is_typed, bind_is_typed}
 use Rattle.tx_tree_file.specs.TreeReading.{◌>>=◌, row_of, bind_by, bind_of, item_of, binding, widget, row_item, bind_item}
-use Rattle.tx_tree_file.specs.declared.line.Item.{Item}
 use Rattle.tx_tree_file.specs.declared.line.Item.TheVariants.{Binding, Widget}
 
 -- ---- ASCII
@@ -86,7 +78,7 @@ encode-all p c low high = by (nat_lt c 128) (nat_lt c 2048) (nat_lt c 65536) ref
     by false true z e = high_byte p (192 + c / 64) ((128 + c % 64) ∷ []) high (omega arith) (high_byte p (128 + c % 64) [] high (omega arith) refl)
     by false false true e = high_byte p (224 + c / 4096) ((128 + c / 64 % 64) ∷ (128 + c % 64) ∷ []) high (omega arith) (high_byte p (128 + c / 64 % 64) ((128 + c % 64) ∷ []) high (omega arith) (high_byte p (128 + c % 64) [] high (omega arith) refl))
     by false false false e = high_byte p (240 + c / 262144) ((128 + c / 4096 % 64) ∷ (128 + c / 64 % 64) ∷ (128 + c % 64) ∷ []) high (omega arith)
-      (high_byte p (128 + c / 4096 % 64) ((128 + c / 64 % 64) ∷ (128 + c % 64) ∷ []) high (omega arith) (high_byte p (128 + c / 64 % 64) ((128 + c % 64) ∷ []) high (omega arith) (high_byte p (128 + c % 64) [] high (omega arith) refl)))
+        (high_byte p (128 + c / 4096 % 64) ((128 + c / 64 % 64) ∷ (128 + c % 64) ∷ []) high (omega arith) (high_byte p (128 + c / 64 % 64) ((128 + c % 64) ∷ []) high (omega arith) (high_byte p (128 + c % 64) [] high (omega arith) refl)))
 
 -- ---- keys
 
@@ -239,6 +231,7 @@ no_priority key rest h s = by (behind (codes "priority ") (key_name key ++ (32 �
     none =
         ap (λ (b : Bool). cond b (key_by (codes "priority") (only_char (chars (codes "priority")))) None) (is_utf8-from_IsUtf8 (codes "priority") (low-utf8 (codes "priority") refl))
         ∙ ap (λ (cs : List ℕ). key_by (codes "priority") (only_char cs)) (chars-IsAscii (codes "priority") (ascii (codes "priority") refl))
+
     by : (o : Option (List ℕ)) → behind (codes "priority ") (key_name key ++ (32 ∷ rest)) ≡ o → o ≡ None
     by None e = refl
     by (Some more) e =
@@ -250,6 +243,7 @@ bind-again bind h t = by bind.priority refl
   where
     rest : List ℕ
     rest = key_name bind.key ++ (32 ∷ action_name bind.action)
+
     read : (b : Bool) → b ≡ bind.priority → bind_by (b, rest) ≡ Some bind
     read b e =
         let w = word-again (key_name bind.key) (32 ∷ action_name bind.action) (key-no_blank bind.key h) refl in
@@ -257,6 +251,7 @@ bind-again bind h t = by bind.priority refl
         ∙ ap (λ (o : Option Key). o >>= (λ key. action_of (action_name bind.action) >>= (λ action. Some (record { key = key; action = action; priority = b })))) (key-again bind.key h (and-left _ _ t))
         ∙ ap (λ (o : Option Action). o >>= (λ action. Some (record { key = bind.key; action = action; priority = b }))) (action-again bind.action (and-right (key_is_typed bind.key) _ t))
         ∙ ap (λ (p : Bool). Some (record { key = bind.key; action = bind.action; priority = p })) e
+
     by : (b : Bool) → b ≡ bind.priority → bind_by (flag (codes "priority ") (priority_part bind.priority ++ rest)) ≡ Some bind
     by true e = ap (λ (p : Bool). bind_by (flag (codes "priority ") (priority_part p ++ rest))) (sym e) ∙ read true e
     by false e = ap (λ (p : Bool). bind_by (flag (codes "priority ") (priority_part p ++ rest))) (sym e)
@@ -494,24 +489,24 @@ row-again row h =
     let state = private-again row.kind row.private r5 h.private_spelled l5 in
     let w = word-again (kind_name row.kind) r1 (kind-no_blank row.kind h.kind_typed) (later-stops 1 r1 l1) in
     let end : Kind → Option (List ℕ) → List (List ℕ) → Bool → Private → List ℕ → List ℕ → Option NewRow = λ kind id classes disabled p text inline.
-      Some (record { kind = kind; id = id; classes = classes; disabled = disabled; text = text; inline = inline; binds = []; private = kept kind (length text) p }) in
+    Some (record { kind = kind; id = id; classes = classes; disabled = disabled; text = text; inline = inline; binds = []; private = kept kind (length text) p }) in
     ap₂ (λ (x y : List ℕ).
-      kind_of x >>= (λ kind. id_of y >>= (λ id. classes_of id.1 >>= (λ classes. private_of kind (flag (codes " disabled") classes.1).1 >>= (λ private. text_of private.1 >>= (λ text. inline_of text.1 >>= (λ inline.
-      end kind id.0 classes.0 (flag (codes " disabled") classes.1).0 private.0 text.0 inline))))))) w.0 w.1
+    kind_of x >>= (λ kind. id_of y >>= (λ id. classes_of id.1 >>= (λ classes. private_of kind (flag (codes " disabled") classes.1).1 >>= (λ private. text_of private.1 >>= (λ text. inline_of text.1 >>= (λ inline.
+    end kind id.0 classes.0 (flag (codes " disabled") classes.1).0 private.0 text.0 inline))))))) w.0 w.1
     ∙ ap (λ (o : Option Kind). o >>= (λ kind. id_of r1 >>= (λ id. classes_of id.1 >>= (λ classes. private_of kind (flag (codes " disabled") classes.1).1 >>= (λ private. text_of private.1 >>= (λ text. inline_of text.1 >>= (λ inline.
-      end kind id.0 classes.0 (flag (codes " disabled") classes.1).0 private.0 text.0 inline))))))) (kind-again row.kind h.kind_spelled h.kind_typed)
+    end kind id.0 classes.0 (flag (codes " disabled") classes.1).0 private.0 text.0 inline))))))) (kind-again row.kind h.kind_spelled h.kind_typed)
     ∙ ap (λ (o : Option (Option (List ℕ) × List ℕ)). o >>= (λ id. classes_of id.1 >>= (λ classes. private_of row.kind (flag (codes " disabled") classes.1).1 >>= (λ private. text_of private.1 >>= (λ text. inline_of text.1 >>= (λ inline.
-      end row.kind id.0 classes.0 (flag (codes " disabled") classes.1).0 private.0 text.0 inline)))))) (id-again row.id r2 h.id_typed l2)
+    end row.kind id.0 classes.0 (flag (codes " disabled") classes.1).0 private.0 text.0 inline)))))) (id-again row.id r2 h.id_typed l2)
     ∙ ap (λ (o : Option (List (List ℕ) × List ℕ)). o >>= (λ classes. private_of row.kind (flag (codes " disabled") classes.1).1 >>= (λ private. text_of private.1 >>= (λ text. inline_of text.1 >>= (λ inline.
-      end row.kind row.id classes.0 (flag (codes " disabled") classes.1).0 private.0 text.0 inline))))) (class_list-again row.classes.names r3 h.classes_typed h.once l3)
+    end row.kind row.id classes.0 (flag (codes " disabled") classes.1).0 private.0 text.0 inline))))) (class_list-again row.classes.names r3 h.classes_typed h.once l3)
     ∙ ap (λ (f : Bool × List ℕ). private_of row.kind f.1 >>= (λ private. text_of private.1 >>= (λ text. inline_of text.1 >>= (λ inline.
-      end row.kind row.id row.classes.names f.0 private.0 text.0 inline)))) (disabled-again row.disabled r4 l4)
+    end row.kind row.id row.classes.names f.0 private.0 text.0 inline)))) (disabled-again row.disabled r4 l4)
     ∙ ap (λ (o : Option (Private × List ℕ)). o >>= (λ private. text_of private.1 >>= (λ text. inline_of text.1 >>= (λ inline.
-      end row.kind row.id row.classes.names row.disabled private.0 text.0 inline)))) state.read
+    end row.kind row.id row.classes.names row.disabled private.0 text.0 inline)))) state.read
     ∙ ap (λ (o : Option (List ℕ × List ℕ)). o >>= (λ text. inline_of text.1 >>= (λ inline.
-      end row.kind row.id row.classes.names row.disabled state.state text.0 inline))) (text-again row.text r6 h.text_spelled h.text_utf8 l6)
+    end row.kind row.id row.classes.names row.disabled state.state text.0 inline))) (text-again row.text r6 h.text_spelled h.text_utf8 l6)
     ∙ ap (λ (o : Option (List ℕ)). o >>= (λ inline.
-      end row.kind row.id row.classes.names row.disabled state.state row.text inline)) (inline-again row.inline h.inline_utf8)
+    end row.kind row.id row.classes.names row.disabled state.state row.text inline)) (inline-again row.inline h.inline_utf8)
     ∙ ap {A = Private} {B = Option NewRow} (λ (p : Private). Some (record { kind = row.kind; id = row.id; classes = row.classes.names; disabled = row.disabled; text = row.text; inline = row.inline; binds = []; private = p })) (state.same (length row.text))
 
 -- ---- lines with their indent
@@ -541,10 +536,13 @@ row-begins row h = by (kind_name row.kind) (capital row.kind h)
   where
     rest : List ℕ
     rest = id_part row.id ++ (class_parts row.classes.names ++ (disabled_part row.disabled ++ (private_part row.private ++ (text_part row.text ++ inline_part row.inline))))
+
     not_blank : (b : ℕ) → is_ascii_uppercase b ≡ true → (b == 32) ≡ false
     not_blank b h = grind (arith, nat_tests)
+
     not_b : (b : ℕ) → is_ascii_uppercase b ≡ true → (b == 98) ≡ false
     not_b b h = grind (arith, nat_tests)
+
     by : (name : List ℕ) → begins_capital name ≡ true → BeginsOther (name ++ rest) × (starts_bind (name ++ rest) ≡ false)
     by [] g = absurd (false≢true g)
     by (b ∷ name) g = (not_blank b g, ap (λ (x : Bool). ends_word (cond x (behind (codes "ind") (name ++ rest)) None)) (not_b b g))

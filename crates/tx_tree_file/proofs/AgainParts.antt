@@ -1,36 +1,30 @@
 -- What is spelled is read again, part by part.
-use Rattle.std.proofs.Common.{◌≡◌, ℕ, zero, suc, ◌+◌, ◌-◌, ◌*◌, ◌/◌, ◌%◌, ◌<◌, ◌≤◌, ◌==◌, ◌&&◌, ◌||◌, ◌^◌, Bool, true, false, cond, not, nat_le, nat_lt, List, [], ◌∷◌, ◌++◌, length, take, drop, flat_map, find, map, Option, Some, None, option_map, option_and_then, refl, ap, ap₂, sym, subst, ◌∙◌, arith, append_assoc, append-nil, length-append, codes, decimal, chars, bytes_eq, encode_utf8, encode_utf8_all, IsUtf8, drop_at, take_at, lit<}
-use Rattle.std.specs.Char.{is_ascii_digit, encode_utf8 as encode}
+use Rattle.std.proofs.Common.{◌≡◌, ℕ, zero, suc, ◌+◌, ◌-◌, ◌*◌, ◌%◌, ◌<◌, ◌≤◌, ◌==◌, ◌||◌, ◌^◌, Bool, true, false, cond, not, nat_le, nat_lt, List, [], ◌∷◌, ◌++◌, length, take, drop, flat_map, find, map, Option, Some, None, option_map, option_and_then, refl, ap, ap₂, sym, ◌∙◌, arith, append_assoc, length-append, codes, decimal, bytes_eq, drop_at, take_at}
+use Rattle.std.specs.Char.{is_ascii_digit}
 use Rattle.std.specs.List.{list_all, list_any}
-use Rattle.std.specs.Str.{is_utf8, all_scalars}
-use Rattle.std.proofs.lemmas.Bool.{false≢true, ne_eqb, le-leb, leb-true, lt-ltb, ltb-true, ltb-false}
-use Rattle.std.proofs.lemmas.Bool.Decides.{nat_tests, Decides-eqb}
-use Rattle.std.proofs.lemmas.Fmt.{decimal_by_steps, decimal_nonempty, IsAscii-decimal}
-use Rattle.std.proofs.lemmas.Grind.{flat_map-append}
+use Rattle.std.specs.Str.{is_utf8}
+use Rattle.std.proofs.lemmas.Bool.{false≢true, ne_eqb, le-leb, leb-true, lt-ltb}
+use Rattle.std.proofs.lemmas.Bool.Decides.{nat_tests}
+use Rattle.std.proofs.lemmas.Fmt.{decimal_by_steps, decimal_nonempty}
 use Rattle.std.proofs.lemmas.Slice.Eq.{bytes_eq-Decides}
-use Rattle.std.proofs.lemmas.Str.{IsUtf8-from_is_utf8, is_utf8-from_IsUtf8, IsUtf8-from_ascii, IsUtf8-append, IsUtf8-nil, IsUtf8-encode, encode_ascii, chars_from_encodes, chars-IsAscii}
-use Rattle.tx_read.specs.Number.{number_at_most, is_number, value, value_behind}
+use Rattle.std.proofs.lemmas.Str.{is_utf8-from_IsUtf8}
+use Rattle.tx_read.specs.Number.{number_at_most, value, value_behind}
 use Rattle.tx_read.specs.Pieces.{behind}
 use Rattle.tx_tree.proofs.NameBytes.{and-left, and-right}
-use Rattle.tx_tree.specs.Kind.{kind_name, fresh}
+use Rattle.tx_tree.specs.Kind.{kind_name}
 use Rattle.tx_tree.specs.Name.{is_name, begins_name, continues_name}
-use Rattle.tx_tree.specs.Spelled.{begins_capital, no_repeats, byte_is_spelled, key_is_spelled, kind_is_spelled, is_built_in, container_names, leaf_names, private_is_spelled, is_plain as is_plain_state, is_cursor, is_on, is_chosen, is_bar}
-use Rattle.tx_tree.specs.declared.bind.Action.{Action}
-use Rattle.tx_tree.specs.declared.bind.Action.TheVariants.{FocusNext, FocusPrevious, ToggleDark, ToggleClass, Scroll}
-use Rattle.tx_tree.specs.declared.bind.Jump.TheVariants.{Up as JumpUp, Down as JumpDown, Home as JumpHome, End as JumpEnd, PageUp as JumpPageUp, PageDown as JumpPageDown}
-use Rattle.tx_tree.specs.declared.bind.Key.{Key}
-use Rattle.tx_tree.specs.declared.bind.Key.TheVariants.{Char, Enter, Escape, Tab, ShiftTab, Backspace, Delete, Up, Down, Left, Right, Home, End, PageUp, PageDown, Function, Ctrl}
+use Rattle.tx_tree.specs.Spelled.{begins_capital, no_repeats, byte_is_spelled, kind_is_spelled, container_names, leaf_names, private_is_spelled, is_plain as is_plain_state, is_bar}
 use Rattle.tx_tree.specs.declared.kind.Kind.{Kind}
 use Rattle.tx_tree.specs.declared.kind.Kind.TheVariants.{Screen, Container, Vertical, Horizontal, Grid, VerticalScroll, Static, Label, Button, Checkbox, Input, OptionList, ProgressBar, Header, Footer, Handed}
 use Rattle.tx_tree.specs.declared.kind.Private.{Private}
 use Rattle.tx_tree.specs.declared.kind.Private.TheVariants.{Plain, Cursor, On, Chosen, Bar}
 use Rattle.tx_tree_file.proofs.FoundLines.{any-append}
 use Rattle.tx_tree_file.proofs.FoundParts.{both}
-use Rattle.tx_tree_file.proofs.Fronts.{some-same, none-some, same-byte, self-byte, behind-front}
+use Rattle.tx_tree_file.proofs.Fronts.{same-byte}
 use Rattle.tx_tree_file.proofs.Utf8Lemmas.{name_utf8}
-use Rattle.tx_tree_file.specs.Parts.{word, past_word, name_of, flag, flag_by, built_in, or_handed, kind_of, id_of, id_by, classes_within, class_by, classes_of, is_total, total_of, bar_by, box_by, private_of, unescaped, is_plain, put_front, quoted, some_text, text_by, text_of, before_brace, inline_by, inline_of, named_keys, function_by, function_of, control_of, or_key, long_key, only_char, char_key, key_by, key_of, named_actions, or_toggle, action_of}
-use Rattle.tx_tree_file.specs.Spelling.{id_part, class_part, class_parts, disabled_part, private_part, escaped, text_part, inline_part, key_name, action_name}
-use Rattle.tx_tree_file.specs.TreeFile.{id_is_typed, kind_is_typed, key_is_typed, action_is_typed, kept}
+use Rattle.tx_tree_file.specs.Parts.{word, past_word, name_of, flag, flag_by, built_in, or_handed, kind_of, id_of, id_by, classes_within, class_by, classes_of, is_total, total_of, bar_by, box_by, private_of, is_plain, put_front, quoted, some_text, text_by, text_of, before_brace, inline_of}
+use Rattle.tx_tree_file.specs.Spelling.{id_part, class_part, class_parts, disabled_part, private_part, escaped, text_part, inline_part}
+use Rattle.tx_tree_file.specs.TreeFile.{id_is_typed, kind_is_typed, kept}
 
 -- ---- what may stand behind a part
 
@@ -201,13 +195,13 @@ AreDigits n ds = (list_all is_ascii_digit ds ≡ true) × (value ds ≡ n)
 
 pub decimal-digits : (n : ℕ) → n < 2 ^ 64 → AreDigits n (decimal n)
 decimal-digits n h = decimal_by_steps AreDigits
-  (λ n h. (both _ true (a_digit n h) refl, omega arith))
-  (λ n ds h m.
+    (λ n h. (both _ true (a_digit n h) refl, omega arith))
+    (λ n ds h m.
     let below : n % 10 < 10 = omega arith in
     let last = m.1 in
     let sum = value-snoc 0 ds (48 + n % 10) in
     (digits-snoc ds (48 + n % 10) m.0 (a_digit (n % 10) below), omega (arith, last, sum)))
-  n h
+    n h
 
 pub number-again : (limit n : ℕ) → n < 2 ^ 64 → nat_le n limit ≡ true → number_at_most limit (decimal n) ≡ Some n
 number-again limit n h e =
@@ -240,21 +234,22 @@ bar-again done total bytes h l = by (total == 100) refl
   where
     most : total ≤ 1000000
     most = leb-true total 1000000 (and-right (nat_le 1 total) _ h)
+
     by : (b : Bool) → (total == 100) ≡ b → IsStateAgain ProgressBar (Bar done total) bytes
     by true e = record {
       state = Bar 0 100;
       read = ap (λ (b : Bool). bar_by (behind (codes " total ") (cond b [] (codes " total " ++ decimal total) ++ bytes)) (cond b [] (codes " total " ++ decimal total) ++ bytes)) e
-        ∙ ap (λ (o : Option (List ℕ)). bar_by o bytes) (not_next 116 (codes "otal ") 5 bytes (omega arith) l);
+          ∙ ap (λ (o : Option (List ℕ)). bar_by o bytes) (not_next 116 (codes "otal ") 5 bytes (omega arith) l);
       same = λ size. ap (Bar 0) (sym (same-byte total 100 e));
     }
     by false e =
-      let w = word-again (decimal total) bytes (decimal-no_blank total (omega (arith, most))) (later-stops 5 bytes l) in record {
-        state = Bar 0 total;
-        read = ap (λ (b : Bool). bar_by (behind (codes " total ") (cond b [] (codes " total " ++ decimal total) ++ bytes)) (cond b [] (codes " total " ++ decimal total) ++ bytes)) e
-          ∙ ap₂ (λ (x y : List ℕ). option_map (λ (t : ℕ). (Bar 0 t, y)) (total_of x)) w.0 w.1
-          ∙ ap (option_map (λ (t : ℕ). (Bar 0 t, bytes))) (total-again total (and-left _ _ h) (and-right (nat_le 1 total) _ h) e);
-        same = λ size. refl;
-      }
+        let w = word-again (decimal total) bytes (decimal-no_blank total (omega (arith, most))) (later-stops 5 bytes l) in record {
+          state = Bar 0 total;
+          read = ap (λ (b : Bool). bar_by (behind (codes " total ") (cond b [] (codes " total " ++ decimal total) ++ bytes)) (cond b [] (codes " total " ++ decimal total) ++ bytes)) e
+              ∙ ap₂ (λ (x y : List ℕ). option_map (λ (t : ℕ). (Bar 0 t, y)) (total_of x)) w.0 w.1
+              ∙ ap (option_map (λ (t : ℕ). (Bar 0 t, bytes))) (total-again total (and-left _ _ h) (and-right (nat_le 1 total) _ h) e);
+          same = λ size. refl;
+        }
 
 box-again : (b : Bool) (bytes : List ℕ) → Later 5 bytes → IsStateAgain Checkbox (On b) bytes
 box-again true bytes l = record { state = On true; read = refl; same = λ size. refl }
@@ -313,6 +308,7 @@ quoted-again (byte ∷ text) bytes h = ap (quoted false) (append_assoc (escaped 
   where
     rest : List ℕ
     rest = flat_map escaped text ++ (34 ∷ bytes)
+
     by : (a b c : Bool) → (byte == 34) ≡ a → (byte == 92) ≡ b → (byte == 10) ≡ c → quoted false rest ≡ Some (text, bytes)
         → quoted false (cond a (codes "\\\"") (cond b (codes "\\\\") (cond c (codes "\\n") (byte ∷ []))) ++ rest) ≡ Some (byte ∷ text, bytes)
     by true b c e f g more = ap (put_front (Some 34)) more ∙ ap (λ (z : ℕ). Some (z ∷ text, bytes)) (sym (same-byte byte 34 e))

@@ -1,5 +1,5 @@
 -- A text of one character, or of more.
-use Rattle.std.proofs.Common.{◌≡◌, ℕ, ◌==◌, List, [], ◌∷◌, ◌++◌, length, Option, Some, None, refl, ap, sym, ◌∙◌, IsUtf8, chars, encode_utf8, arith, lit<}
+use Rattle.std.proofs.Common.{◌≡◌, ℕ, List, [], ◌∷◌, ◌++◌, length, Some, None, refl, ap, ◌∙◌, IsUtf8, chars, encode_utf8, arith, lit<}
 use Rattle.std.proofs.lemmas.Str.{chars_past_char, IsUtf8-past_char, chars-IsAscii}
 use Rattle.tx_tree_file.specs.Parts.{only_char}
 

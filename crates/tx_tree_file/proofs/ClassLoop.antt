@@ -1,5 +1,5 @@
 -- Classes read one behind another.
-use Rattle.std.proofs.Common.{◌≡◌, ℕ, zero, suc, ◌+◌, ◌-◌, ◌<◌, ◌≤◌, ◌==◌, Bool, true, false, cond, List, [], ◌∷◌, ◌++◌, length, Option, Some, None, option_map, refl, ap, sym, ◌∙◌, arith, append_assoc, append-nil, length-append, codes}
+use Rattle.std.proofs.Common.{◌≡◌, ℕ, zero, suc, ◌+◌, ◌-◌, ◌≤◌, ◌==◌, Bool, true, false, cond, List, [], ◌∷◌, ◌++◌, length, Option, Some, None, option_map, refl, ap, sym, ◌∙◌, arith, append_assoc, append-nil, length-append, codes}
 use Rattle.tx_read.specs.Pieces.{behind}
 use Rattle.tx_tree_file.proofs.Fronts.{front_of, some-same, none-some}
 use Rattle.tx_tree.specs.Name.{is_name}
@@ -92,7 +92,7 @@ no_class front all bytes rest room so e n =
     let a = shorter bytes rest e in
     let there : suc (length all - length front - 1) ≡ length all - length front = omega (arith, a, room) in
     let fails : classes_within (length all) all ≡ None =
-        sym so ∙ ap (λ (m : ℕ). before front (classes_within m bytes)) (sym there) ∙ ap (before front) (no_step (length all - length front - 1) bytes rest e (unnamed (word rest) n)) in
+    sym so ∙ ap (λ (m : ℕ). before front (classes_within m bytes)) (sym there) ∙ ap (before front) (no_step (length all - length front - 1) bytes rest e (unnamed (word rest) n)) in
     rw fails refl
 
 pub all_classes : (front : List (List ℕ)) (all bytes : List ℕ) (b : Bool)
@@ -100,5 +100,5 @@ pub all_classes : (front : List (List ℕ)) (all bytes : List ℕ) (b : Bool)
     → behind (codes " .") bytes ≡ None → b ≡ no_repeats front → cond b (Some (front, bytes)) None ≡ classes_of all
 all_classes front all bytes b so e r =
     let found : classes_within (length all) all ≡ Some (front, bytes) =
-        sym so ∙ ap (before front) (stop (length all - length front) bytes e) ∙ ap (λ (z : List (List ℕ)). Some (z, bytes)) (append-nil front) in
+    sym so ∙ ap (before front) (stop (length all - length front) bytes e) ∙ ap (λ (z : List (List ℕ)). Some (z, bytes)) (append-nil front) in
     rw (found, r) refl

@@ -1,20 +1,15 @@
 -- The first line that breaks a rule.
-use Rattle.std.proofs.Common.{◌≡◌, ℕ, zero, suc, ◌+◌, ◌-◌, ◌*◌, ◌/◌, ◌%◌, ◌<◌, ◌≤◌, ◌==◌, ◌&&◌, ◌||◌, Bool, true, false, cond, not, nat_le, List, [], ◌∷◌, ◌++◌, length, drop, replicate, flat_map, fold, sum_by, Option, Some, None, Result, Ok, Err, refl, ap, ap₂, sym, subst, subst₂, ◌∙◌, arith, append_assoc, append-nil, length-append, ◌≢◌, ◌⊎◌, inl, inr, ⊎_elim, codes, add-one}
+use Rattle.std.proofs.Common.{◌≡◌, ℕ, ◌+◌, ◌*◌, ◌/◌, ◌≤◌, ◌==◌, Bool, true, false, cond, not, List, [], ◌∷◌, ◌++◌, length, replicate, Option, Some, None, Result, Ok, Err, refl, ap, ap₂, sym, subst, ◌∙◌, arith, append_assoc, append-nil, length-append, ◌≢◌, ◌⊎◌, inl, inr, ⊎_elim, codes}
 use Rattle.std.specs.List.{list_all}
-use Rattle.std.specs.Option.{option_map_or}
 use Rattle.std.specs.Str.{is_utf8}
-use Rattle.std.proofs.lemmas.Bool.{false≢true, eqb-true, ne_eqb}
-use Rattle.std.proofs.lemmas.Grind.{flat_map-append}
-use Rattle.tx_read.specs.Pieces.{pieces, onto}
+use Rattle.std.proofs.lemmas.Bool.{false≢true, ne_eqb}
+use Rattle.tx_read.specs.Pieces.{pieces}
 use Rattle.tx_tree.proofs.NameBytes.{and-left, and-right}
-use Rattle.tx_tree.specs.Kind.{is_screen, holds_children}
+use Rattle.tx_tree.specs.Kind.{is_screen}
 use Rattle.tx_tree.specs.Mount.{is_taken}
 use Rattle.tx_tree.specs.Row.{placed}
-use Rattle.tx_tree.specs.Rows.{last_above}
-use Rattle.tx_tree.specs.Name.{is_name}
-use Rattle.tx_tree.specs.Spelled.{is_spelled, key_is_spelled, no_line_feed, byte_is_spelled, no_repeats, kind_is_spelled, private_is_spelled}
-use Rattle.tx_tree.specs.WellFormed.{MayFollow, MayAllFollow, IsFirst, IsPreorder}
-use Rattle.tx_tree.specs.TreeValue.{TreeValue}
+use Rattle.tx_tree.specs.Spelled.{is_spelled, no_line_feed}
+use Rattle.tx_tree.specs.WellFormed.{IsPreorder}
 use Rattle.tx_tree.specs.declared.bind.Bind.{Bind}
 use Rattle.tx_tree.specs.declared.fault.TreeFault.{TreeFault}
 use Rattle.tx_tree.specs.declared.fault.TreeFault.TheVariants.{Grammar, NoNode, DuplicateId as DuplicateId', TooMany as TooMany', TooDeep as TooDeep', Root, Leaf as Leaf', NotSiblings, NoMemory}
@@ -22,23 +17,21 @@ use Rattle.tx_tree.specs.declared.fault.TreeKind.{TreeKind}
 use Rattle.tx_tree.specs.declared.fault.TreeKind.TheVariants.{BadByte, BadIndent, TooDeep, Expected, Leaf, TooMany, DuplicateId}
 use Rattle.tx_tree.specs.declared.row.NewRow.{NewRow}
 use Rattle.tx_tree.specs.declared.row.Row.{Row}
-use Rattle.tx_tree_file.proofs.FoundLines.{IsRowText, row-found, IsBindText, bind-found, all-behind}
-use Rattle.tx_tree_file.proofs.FoundParts.{both}
+use Rattle.tx_tree_file.proofs.FoundLines.{row-found, all-behind}
 use Rattle.tx_tree_file.proofs.Fronts.{same-byte, some-same, none-some}
-use Rattle.tx_tree_file.proofs.Growing.{above_front, all-snoc}
-use Rattle.tx_tree_file.proofs.LastRows.{ok-same, err-ok, ifs, ended-inv, item-inv, is_bind, is_widget, IsItem, IsRowItem, row_item-inv, other_than, some_piece}
+use Rattle.tx_tree_file.proofs.Growing.{all-snoc}
+use Rattle.tx_tree_file.proofs.LastRows.{item-inv, row_item-inv, other_than, some_piece}
 use Rattle.tx_tree_file.proofs.Repeats.{not_true}
-use Rattle.tx_tree_file.specs.FirstFault.{ids_differ, is_held, line_count, IsPreorderOrNone, IsBegun, last_row, SpellsRow, SpellsBind, IsIndented, IsPlaced, IsRowLine, IsNothing, Breaks, is_line_end, is_ended, IsFirstFault, IsFaultOf}
-use Rattle.tx_tree_file.proofs.AgainLines.{HasParts, has-parts, row-begins, blanks-again, row-again, row_line-again, bind_line-again, new_of, BeginsOther}
+use Rattle.tx_tree_file.specs.FirstFault.{is_held, line_count, IsPreorderOrNone, IsBegun, last_row, SpellsRow, SpellsBind, IsIndented, IsPlaced, IsRowLine, IsNothing, Breaks, is_line_end, is_ended, IsFirstFault, IsFaultOf}
+use Rattle.tx_tree_file.proofs.AgainLines.{has-parts, row-begins, blanks-again, row-again, row_line-again, bind_line-again, new_of, BeginsOther}
 use Rattle.tx_tree_file.proofs.LastRows.{stands-inv}
-use Rattle.tx_tree_file.proofs.Whole.{Stands, ends-preorder, ids-snoc, again-snoc, blanks_split, indented, with_new-inv, IsAllowed, IsNext, next-found, IsFirstItem, first-inv, first-stands, first-text, joined, joined-pieces, pieces-whole, or-inv, count-last}
+use Rattle.tx_tree_file.proofs.Whole.{Stands, ends-preorder, ids-snoc, again-snoc, blanks_split, indented, next-found, first-inv, first-stands, first-text, joined, joined-pieces, pieces-whole, count-last}
 use Rattle.tx_tree_file.specs.Indent.{may_indent, is_too_deep, starts_bind, blanks, past_blanks, is_bind_line, may_stand}
-use Rattle.tx_tree_file.specs.Spelling.{indent, row_text, row_line, bind_text, bind_line, row_lines, spelling}
-use Rattle.tx_tree_file.specs.TreeFile.{is_typed, bind_is_typed, kind_is_typed, id_is_typed, kept, read_row, read_again, IsReading}
-use Rattle.tx_tree_file.specs.TreeReading.{Begun, LineFault, screen, first_item, with_first, first_line, binding, widget, bind_item, row_item, item_of, row_of, bind_of, with_bind, with_new, with_item, next_line, or_fault, is_empty, rows_behind, rows_so_far, rows_of_lines, tree_of, Tells, FaultIs}
+use Rattle.tx_tree_file.specs.Spelling.{indent, row_text, bind_text, spelling}
+use Rattle.tx_tree_file.specs.TreeFile.{is_typed}
+use Rattle.tx_tree_file.specs.TreeReading.{Begun, LineFault, screen, first_item, with_first, binding, widget, bind_item, item_of, row_of, bind_of, with_new, with_item, next_line, or_fault, is_empty, rows_behind, rows_so_far, rows_of_lines, tree_of, FaultIs}
 use Rattle.tx_tree_file.specs.declared.line.Item.{Item}
 use Rattle.tx_tree_file.specs.declared.line.Item.TheVariants.{Binding, Widget}
-
 
 pub ok-err : {A F B : Type 0} {x : A} {f : F} → ◌≡◌ {A = Result A F} (Ok x) (Err f) → B
 ok-err h = absurd cc
@@ -105,10 +98,13 @@ placed-line begun line utf8 stands = record { utf8 = utf8; indent = ap (λ (o : 
 expected : (begun : Begun) (line : List ℕ) (ended : Bool) → begun.last.depth ≤ 63 → is_utf8 line ≡ true → may_stand begun.last.depth (is_bind_line line) (blanks line) ≡ true → is_too_deep line ≡ false
     → item_of begun.last.depth line ended ≡ Err Expected → Breaks (rows_so_far begun) line ended Expected
 expected begun line false deep utf8 stands shallow is = (record { indented = placed-line begun line utf8 stands; shallow = shallow }, inl refl)
-expected begun line true deep utf8 stands shallow is = (record { indented = placed-line begun line utf8 stands; shallow = shallow }, inr (record {
+expected begun line true deep utf8 stands shallow is = (
+  record { indented = placed-line begun line utf8 stands; shallow = shallow },
+  inr (record {
     no_row = no_row-there begun line Expected deep stands shallow is;
     no_bind = no_bind-there begun line Expected is;
-  }))
+  }),
+)
 
 binding-err : (o : Option Bind) (kind : TreeKind) → binding o ≡ Err kind → kind ≡ Expected
 binding-err None kind h = sym (err-same h)
@@ -131,6 +127,7 @@ item-breaks begun line ended kind deep is = by (is_utf8 line) (may_stand begun.l
   where
     at : TreeKind → Type 0
     at k = Breaks (rows_so_far begun) line ended k
+
     by : (u m b f : Bool) → is_utf8 line ≡ u → may_stand begun.last.depth (is_bind_line line) (blanks line) ≡ m → is_bind_line line ≡ b → (blanks line == 128) ≡ f
         → cond (not u) (Err BadByte) (cond (not m) (Err BadIndent) (cond b (bind_item (past_blanks line) ended) (cond f (Err TooDeep) (cond ended (widget (blanks line / 2) (row_of (past_blanks line))) (Err Expected))))) ≡ Err kind
         → at kind
@@ -176,10 +173,13 @@ new-breaks begun line ended d new kind row h = by (is_held d (rows_so_far begun)
   where
     rows : List Row
     rows = rows_so_far begun
+
     made : Result Begun TreeKind
     made = Ok (record { before = rows; last = placed new (length rows + 1) d })
+
     at : TreeKind → Type 0
     at k = Breaks rows line ended k
+
     by : (a b c : Bool) → is_held d rows ≡ a → (length rows == 65536) ≡ b → is_taken new.id rows ≡ c
         → cond (not a) (Err Leaf) (cond b (Err TooMany) (cond c (Err DuplicateId) made)) ≡ Err kind → at kind
     by false b c ea eb ec g = subst at (err-same g) (placed new 0 d, row, ea)
@@ -243,12 +243,12 @@ fault-behind bytes (line ∷ second ∷ lines) done begun fault h deep whole tex
       broken = next-breaks begun line true f.0 deep (and-left _ _ whole) f.1;
     }))
     (λ g.
-      let good = next-found begun line g.0 h deep (and-left _ _ whole) g.1 in
-      fault-behind bytes (second ∷ lines) (done + 1) g.0 fault good.stands good.depth (and-right (list_all no_line_feed line) _ whole)
-      (text ∙ ap (λ (z : List ℕ). spelling (rows_so_far begun) ++ z) (sym (append_assoc line (codes "\n") (joined (second ∷ lines)))) ∙ sym (append_assoc (spelling (rows_so_far begun)) (line ++ codes "\n") (joined (second ∷ lines)))
-        ∙ ap (λ (z : List ℕ). z ++ joined (second ∷ lines)) (sym good.text))
-      (ap (λ (n : ℕ). n + 1) count ∙ sym good.lines)
-      g.2)
+    let good = next-found begun line g.0 h deep (and-left _ _ whole) g.1 in
+    fault-behind bytes (second ∷ lines) (done + 1) g.0 fault good.stands good.depth (and-right (list_all no_line_feed line) _ whole)
+    (text ∙ ap (λ (z : List ℕ). spelling (rows_so_far begun) ++ z) (sym (append_assoc line (codes "\n") (joined (second ∷ lines)))) ∙ sym (append_assoc (spelling (rows_so_far begun)) (line ++ codes "\n") (joined (second ∷ lines)))
+    ∙ ap (λ (z : List ℕ). z ++ joined (second ∷ lines)) (sym good.text))
+    (ap (λ (n : ℕ). n + 1) count ∙ sym good.lines)
+    g.2)
     (fault-inv (done + 1) (next_line begun line true) (rows_behind (second ∷ lines) (done + 1)) fault is)
 
 -- ---- the first line
@@ -256,11 +256,11 @@ fault-behind bytes (line ∷ second ∷ lines) done begun fault h deep whole tex
 first-nothing : (line : List ℕ) → blanks line ≡ 0 → screen (row_of line) ≡ Err Expected → IsNothing [] line
 first-nothing line none is = record {
   no_row = λ row h.
-    let parts = has-parts row h.typed h.spelled in
-    let (count, past) = spelled-blanks row.depth line (row_text row) (row-begins row parts.kind_spelled).0 h.text in
-    let flat : 2 * row.depth ≡ 2 * 0 = sym count ∙ none in
-    let text : line ≡ row_text row = h.text ∙ ap (λ (n : ℕ). replicate n 32 ++ row_text row) flat in
-    ok-err (sym (ap screen (ap row_of text ∙ row-again row parts) ∙ ap (λ (b : Bool). cond b (Ok (new_of row)) (Err Expected)) h.screen) ∙ is);
+      let parts = has-parts row h.typed h.spelled in
+      let (count, past) = spelled-blanks row.depth line (row_text row) (row-begins row parts.kind_spelled).0 h.text in
+      let flat : 2 * row.depth ≡ 2 * 0 = sym count ∙ none in
+      let text : line ≡ row_text row = h.text ∙ ap (λ (n : ℕ). replicate n 32 ++ row_text row) flat in
+      ok-err (sym (ap screen (ap row_of text ∙ row-again row parts) ∙ ap (λ (b : Bool). cond b (Ok (new_of row)) (Err Expected)) h.screen) ∙ is);
   no_bind = λ bind h. none-some h.behind;
 }
 
@@ -277,6 +277,7 @@ first-breaks line ended kind h = by (is_utf8 line) (blanks line == 0) ended refl
   where
     at : TreeKind → Type 0
     at k = Breaks [] line ended k
+
     place : is_utf8 line ≡ true → (blanks line == 0) ≡ true → IsPlaced [] line
     place u m = record {
       indented = record { utf8 = u; indent = m };
@@ -286,6 +287,7 @@ first-breaks line ended kind h = by (is_utf8 line) (blanks line == 0) ended refl
         by_bind : (b : Bool) → (blanks line == 128) ≡ false → cond b false (blanks line == 128) ≡ false
         by_bind true e = refl
         by_bind false e = e
+
     by : (u m e : Bool) → is_utf8 line ≡ u → (blanks line == 0) ≡ m → ended ≡ e
         → cond (not u) (Err BadByte) (cond (not m) (Err BadIndent) (cond e (screen (row_of line)) (Err Expected))) ≡ Err kind → at kind
     by false m e eu em ee g = subst at (err-same g) eu
@@ -316,6 +318,7 @@ file-fault bytes fault h = subst (λ (z : List ℕ). IsFirstFault z fault.line f
         → ((kind : TreeKind) × (first_item line ended ≡ Err kind) × (fault ≡ record { line = 1; kind = kind })) ⊎ ((new : NewRow) × (first_item line ended ≡ Ok new) × (more (record { before = []; last = placed new 1 0 }) ≡ Err fault))
     first line ended more (Err kind) e g = inl (kind, e, sym (err-same g))
     first line ended more (Ok new) e g = inr (new, e, g)
+
     by : (ps : List (List ℕ)) → is_empty ps ≡ false → list_all (list_all no_line_feed) ps ≡ true → rows_of_lines ps ≡ Err fault → IsFirstFault (joined ps) fault.line fault.kind
     by [] some whole g = absurd (false≢true (sym some))
     by (line ∷ []) some whole g =
@@ -326,14 +329,14 @@ file-fault bytes fault h = subst (λ (z : List ℕ). IsFirstFault z fault.line f
     by (line ∷ second ∷ lines) some whole g =
         ⊎_elim
         (λ f. subst (λ (z : LineFault). IsFirstFault (joined (line ∷ second ∷ lines)) z.line z.kind) (sym f.2)
-          (first-whole (joined (line ∷ second ∷ lines)) line (10 ∷ joined (second ∷ lines)) f.0 refl (and-left _ _ whole) refl (first-breaks line true f.0 f.1)))
+        (first-whole (joined (line ∷ second ∷ lines)) line (10 ∷ joined (second ∷ lines)) f.0 refl (and-left _ _ whole) refl (first-breaks line true f.0 f.1)))
         (λ f.
-          let is = (first-inv line true f.0 f.1).1 in
-          let text = row-found line f.0 is.row in
-          fault-behind (joined (line ∷ second ∷ lines)) (second ∷ lines) 1 (record { before = []; last = placed f.0 1 0 }) fault (first-stands line f.0 (and-left _ _ whole) is) (omega arith) (and-right (list_all no_line_feed line) _ whole)
-          (sym (append_assoc line (codes "\n") (joined (second ∷ lines))) ∙ ap (λ (z : List ℕ). z ++ joined (second ∷ lines)) (sym (first-text line f.0 is)))
-          (let none = ap length text.alone in let count = count-last [] (placed f.0 1 0) in omega (arith, none, count))
-          f.2)
+        let is = (first-inv line true f.0 f.1).1 in
+        let text = row-found line f.0 is.row in
+        fault-behind (joined (line ∷ second ∷ lines)) (second ∷ lines) 1 (record { before = []; last = placed f.0 1 0 }) fault (first-stands line f.0 (and-left _ _ whole) is) (omega arith) (and-right (list_all no_line_feed line) _ whole)
+        (sym (append_assoc line (codes "\n") (joined (second ∷ lines))) ∙ ap (λ (z : List ℕ). z ++ joined (second ∷ lines)) (sym (first-text line f.0 is)))
+        (let none = ap length text.alone in let count = count-last [] (placed f.0 1 0) in omega (arith, none, count))
+        f.2)
         (first line true (rows_behind (second ∷ lines) 1) (first_item line true) refl g)
 
 pub fault-of : (bytes : List ℕ) (fault : TreeFault) → FaultIs (tree_of bytes) fault → IsFaultOf bytes fault

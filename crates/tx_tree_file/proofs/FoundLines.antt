@@ -1,15 +1,15 @@
 -- What is read of a line is spelled so.
-use Rattle.std.proofs.Common.{◌≡◌, ℕ, zero, suc, ◌+◌, ◌<◌, ◌≤◌, ◌==◌, ◌&&◌, ◌||◌, Bool, true, false, cond, not, nat_le, List, [], ◌∷◌, ◌++◌, length, flat_map, find, map, Option, Some, None, option_map, option_and_then, refl, ap, ap₂, sym, subst, ◌∙◌, arith, append_assoc, append-nil, length-append, codes, decimal, chars, bytes_eq, encode_utf8, encode_utf8_all, IsUtf8}
+use Rattle.std.proofs.Common.{◌≡◌, ℕ, ◌≤◌, ◌==◌, ◌&&◌, ◌||◌, Bool, true, false, cond, not, nat_le, List, [], ◌∷◌, ◌++◌, length, flat_map, find, map, Option, Some, None, option_map, refl, ap, ap₂, sym, subst, ◌∙◌, arith, append-nil, length-append, codes, decimal, chars, bytes_eq, encode_utf8, encode_utf8_all}
 use Rattle.std.specs.List.{list_all, list_any}
 use Rattle.std.specs.Str.{is_utf8, all_scalars}
 use Rattle.std.proofs.lemmas.Str.{IsUtf8-from_is_utf8, encodes-chars, scalars-chars}
 use Rattle.tx_read.specs.Number.{number_at_most}
 use Rattle.tx_read.specs.Pieces.{behind}
 use Rattle.tx_tree.proofs.NameBytes.{and-left, and-right}
-use Rattle.tx_tree.specs.Kind.{kind_name, fresh}
+use Rattle.tx_tree.specs.Kind.{kind_name}
 use Rattle.tx_tree.specs.Name.{is_name}
 use Rattle.tx_tree.specs.Row.{placed}
-use Rattle.tx_tree.specs.Spelled.{begins_capital, no_repeats, byte_is_spelled, no_line_feed, key_is_spelled, kind_is_spelled, is_built_in, container_names, leaf_names, private_is_spelled, is_spelled}
+use Rattle.tx_tree.specs.Spelled.{begins_capital, no_line_feed, key_is_spelled, kind_is_spelled, is_built_in, container_names, leaf_names, is_spelled}
 use Rattle.tx_tree.specs.declared.bind.Action.{Action}
 use Rattle.tx_tree.specs.declared.bind.Action.TheVariants.{ToggleClass}
 use Rattle.tx_tree.specs.declared.bind.Bind.{Bind}
@@ -19,13 +19,12 @@ use Rattle.tx_tree.specs.declared.kind.Kind.{Kind}
 use Rattle.tx_tree.specs.declared.kind.Kind.TheVariants.{Handed}
 use Rattle.tx_tree.specs.declared.kind.Private.{Private}
 use Rattle.tx_tree.specs.declared.row.NewRow.{NewRow}
-use Rattle.tx_tree.specs.declared.row.Row.{Row}
-use Rattle.tx_tree_file.proofs.FoundParts.{map-inv, then-inv, if-inv, both, same_bytes, word_split, name-found, flag-found, id-found, class_list-found, IsState, private-found, number-found, text-found, inline-found}
-use Rattle.tx_tree_file.proofs.Fronts.{some-same, none-some, same-byte, front_of}
-use Rattle.tx_tree_file.specs.Parts.{word, past_word, name_of, flag, flag_by, built_in, or_handed, kind_of, id_of, classes_of, private_of, text_of, inline_of, named_keys, function_by, function_of, control_of, or_key, long_key, only_char, char_key, key_by, key_of, named_actions, or_toggle, action_of, unescaped}
+use Rattle.tx_tree_file.proofs.FoundParts.{map-inv, then-inv, if-inv, both, same_bytes, word_split, name-found, flag-found, id-found, class_list-found, private-found, number-found, text-found, inline-found}
+use Rattle.tx_tree_file.proofs.Fronts.{some-same, none-some, front_of}
+use Rattle.tx_tree_file.specs.Parts.{word, past_word, name_of, flag, built_in, or_handed, kind_of, id_of, classes_of, private_of, text_of, inline_of, named_keys, function_by, function_of, control_of, or_key, long_key, only_char, char_key, key_by, key_of, named_actions, or_toggle, action_of}
 use Rattle.tx_tree_file.specs.Spelling.{id_part, class_parts, disabled_part, private_part, escaped, text_part, inline_part, row_text, key_name, action_name, priority_part, bind_text}
-use Rattle.tx_tree_file.specs.TreeFile.{id_is_typed, kind_is_typed, key_is_typed, action_is_typed, bind_is_typed, is_typed, kept}
-use Rattle.tx_tree_file.specs.TreeReading.{◌>>=◌, row_of, bind_by, bind_of}
+use Rattle.tx_tree_file.specs.TreeFile.{kind_is_typed, key_is_typed, action_is_typed, bind_is_typed, is_typed, kept}
+use Rattle.tx_tree_file.specs.TreeReading.{◌>>=◌, row_of, bind_of}
 
 pub bind-inv : {A B : Type 0} (f : A → Option B) (o : Option A) (y : B) → (o >>= f) ≡ Some y → (x : A) × (o ≡ Some x) × (f x ≡ Some y)
 bind-inv f None y h = none-some h
@@ -138,9 +137,9 @@ row-found bytes new h0 =
     let e7 : text.1 ≡ inline_part inline = is_inline.0 in
     let e6 : private.1 ≡ text_part text.0 ++ inline_part inline = is_text.0 ∙ ap (λ (z : List ℕ). text_part text.0 ++ z) e7 in
     let e5 : (flag (codes " disabled") classes.1).1 ≡ private_part (kept kind (length text.0) private.0) ++ (text_part text.0 ++ inline_part inline) =
-        is_private.0 ∙ ap₂ (λ (x y : List ℕ). x ++ y) (sym (is_private.1.part (length text.0))) e6 in
+    is_private.0 ∙ ap₂ (λ (x y : List ℕ). x ++ y) (sym (is_private.1.part (length text.0))) e6 in
     let e4 : classes.1 ≡ disabled_part b ++ (private_part (kept kind (length text.0) private.0) ++ (text_part text.0 ++ inline_part inline)) =
-        flag-found (codes " disabled") classes.1 ∙ ap₂ (λ (x y : List ℕ). x ++ y) (disabled-part b) e5 in
+    flag-found (codes " disabled") classes.1 ∙ ap₂ (λ (x y : List ℕ). x ++ y) (disabled-part b) e5 in
     let e3 = are_classes.0 ∙ ap (λ (z : List ℕ). class_parts classes.0 ++ z) e4 in
     let e2 = is_id.0 ∙ ap (λ (z : List ℕ). id_part id.0 ++ z) e3 in
     let e1 = word_split bytes ∙ ap₂ (λ (x y : List ℕ). x ++ y) is_kind.text e2 in

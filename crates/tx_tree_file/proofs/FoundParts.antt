@@ -1,27 +1,22 @@
 -- What is read of a part is spelled so.
-use Rattle.std.proofs.Common.{◌≡◌, ℕ, zero, suc, ◌+◌, ◌-◌, ◌<◌, ◌≤◌, ◌==◌, ◌&&◌, Bool, true, false, cond, not, nat_le, List, [], ◌∷◌, ◌++◌, length, take, drop, flat_map, find, Option, Some, None, option_map, option_and_then, refl, ap, ap₂, sym, subst, ◌∙◌, arith, append_assoc, append-nil, take-append-drop, codes, decimal, chars, bytes_eq, encode_utf8, IsUtf8}
+use Rattle.std.proofs.Common.{◌≡◌, ℕ, zero, suc, ◌-◌, ◌==◌, ◌&&◌, Bool, true, false, cond, not, nat_le, List, [], ◌∷◌, ◌++◌, length, take, drop, flat_map, Option, Some, None, option_map, option_and_then, refl, ap, ap₂, sym, subst, ◌∙◌, arith, append_assoc, take-append-drop, codes, decimal, bytes_eq}
 use Rattle.std.specs.List.{list_all}
-use Rattle.std.specs.Str.{is_utf8, all_scalars}
+use Rattle.std.specs.Str.{is_utf8}
 use Rattle.std.proofs.lemmas.Slice.Eq.{bytes_eq-Decides}
-use Rattle.std.proofs.lemmas.Str.{IsUtf8-from_is_utf8, is_utf8-from_IsUtf8, IsUtf8-nil, encodes-chars, scalars-chars}
+use Rattle.std.proofs.lemmas.Str.{is_utf8-from_IsUtf8, IsUtf8-nil}
 use Rattle.tx_read.specs.Number.{number_at_most}
 use Rattle.tx_read.specs.Pieces.{behind}
 use Rattle.tx_tree.proofs.NameBytes.{and-left, and-right}
-use Rattle.tx_tree.specs.Kind.{kind_name, fresh}
 use Rattle.tx_tree.specs.Name.{is_name}
-use Rattle.tx_tree.specs.Spelled.{begins_capital, no_repeats, byte_is_spelled, key_is_spelled, kind_is_spelled, is_built_in, private_is_spelled, is_bar}
-use Rattle.tx_tree.specs.declared.bind.Action.{Action}
-use Rattle.tx_tree.specs.declared.bind.Action.TheVariants.{FocusNext, FocusPrevious, ToggleDark, ToggleClass, Scroll}
-use Rattle.tx_tree.specs.declared.bind.Key.{Key}
-use Rattle.tx_tree.specs.declared.bind.Key.TheVariants.{Char, Function, Ctrl}
+use Rattle.tx_tree.specs.Spelled.{no_repeats, byte_is_spelled, private_is_spelled}
 use Rattle.tx_tree.specs.declared.kind.Kind.{Kind}
 use Rattle.tx_tree.specs.declared.kind.Kind.TheVariants.{Screen, Container, Vertical, Horizontal, Grid, VerticalScroll, Static, Label, Button, Checkbox, Input, OptionList, ProgressBar, Header, Footer, Handed}
 use Rattle.tx_tree.specs.declared.kind.Private.{Private}
-use Rattle.tx_tree.specs.declared.kind.Private.TheVariants.{Plain, Cursor, On, Chosen, Bar}
+use Rattle.tx_tree.specs.declared.kind.Private.TheVariants.{Plain, On, Bar}
 use Rattle.tx_tree_file.proofs.Fronts.{some-same, none-some, same-byte, front_of}
-use Rattle.tx_tree_file.specs.Parts.{word, past_word, name_of, flag, flag_by, built_in, or_handed, kind_of, id_of, id_by, classes_within, class_by, classes_of, is_total, total_of, bar_by, box_by, private_of, unescaped, is_plain, put_front, quoted, some_text, text_by, text_of, before_brace, inline_by, inline_of, named_keys, function_by, function_of, control_of, or_key, long_key, only_char, char_key, key_by, key_of, named_actions, or_toggle, action_of}
-use Rattle.tx_tree_file.specs.Spelling.{id_part, class_part, class_parts, disabled_part, private_part, escaped, text_part, inline_part, key_name, action_name}
-use Rattle.tx_tree_file.specs.TreeFile.{id_is_typed, kind_is_typed, key_is_typed, action_is_typed, kept}
+use Rattle.tx_tree_file.specs.Parts.{word, past_word, name_of, flag, flag_by, id_of, id_by, classes_within, class_by, classes_of, is_total, total_of, bar_by, private_of, unescaped, is_plain, put_front, quoted, some_text, text_by, text_of, before_brace, inline_by, inline_of}
+use Rattle.tx_tree_file.specs.Spelling.{id_part, class_parts, private_part, escaped, text_part, inline_part}
+use Rattle.tx_tree_file.specs.TreeFile.{id_is_typed, kept}
 
 -- ---- answers taken apart
 
@@ -79,6 +74,7 @@ id-found bytes found h = by (behind (codes " #") bytes) refl h
   where
     Is : Option (List ℕ) × List ℕ → Type 0
     Is f = (bytes ≡ id_part f.0 ++ f.1) × (id_is_typed f.0 ≡ true)
+
     by : (o : Option (List ℕ)) → behind (codes " #") bytes ≡ o → id_by o bytes ≡ Some found → Is found
     by None e g = subst Is (some-same g) (refl, refl)
     by (Some rest) e g =
@@ -93,6 +89,7 @@ classes-found (suc n) bytes found h = by (behind (codes " .") bytes) refl (λ re
   where
     Is : List ℕ → List (List ℕ) × List ℕ → Type 0
     Is all f = (all ≡ class_parts f.0 ++ f.1) × (list_all is_name f.0 ≡ true)
+
     by : (o : Option (List ℕ)) → behind (codes " .") bytes ≡ o → ((rest : List ℕ) (f : List (List ℕ) × List ℕ) → classes_within n rest ≡ Some f → Is rest f)
         → class_by o bytes (classes_within n) ≡ Some found → Is bytes found
     by None e more g = subst (Is bytes) (some-same g) (refl, refl)
@@ -133,7 +130,10 @@ total-found digits n h =
     let (m, is, checked) = then-inv (λ (n : ℕ). cond (is_total digits n) (Some n) None) (number_at_most 1000000 digits) n h in
     let (good, same) = if-inv (is_total digits m) (Some m) n checked in
     subst (λ (z : ℕ). (digits ≡ decimal z) × (nat_le 1 z ≡ true) × (nat_le z 1000000 ≡ true) × (not (z == 100) ≡ true)) (some-same same) (
-      sym (same_bytes (decimal m) digits (and-left _ _ good)), and-left _ _ (and-right _ _ good), number-found 1000000 m digits is, and-right _ _ (and-right _ _ good),
+      sym (same_bytes (decimal m) digits (and-left _ _ good)),
+      and-left _ _ (and-right _ _ good),
+      number-found 1000000 m digits is,
+      and-right _ _ (and-right _ _ good),
     )
 
 other_total : (n : ℕ) → not (n == 100) ≡ true → private_part (Bar 0 n) ≡ codes " total " ++ decimal n
@@ -149,6 +149,7 @@ bar-found bytes found h = by (behind (codes " total ") bytes) refl h
   where
     Is : Private × List ℕ → Type 0
     Is f = (bytes ≡ private_part f.0 ++ f.1) × IsState ProgressBar f.0
+
     by : (o : Option (List ℕ)) → behind (codes " total ") bytes ≡ o → bar_by o bytes ≡ Some found → Is found
     by None e g = subst Is (some-same g) (refl, record { part = λ size. refl; spelled = λ size. refl; again = λ size. refl })
     by (Some rest) e g =
@@ -282,9 +283,9 @@ text-found bytes found h = by (behind (codes " \"") bytes) refl h
         let (e2, utf8, full) = some_text-found f.0 text some in
         let (spelled, good) = quoted-found false rest f is in
         let front : bytes ≡ (codes " \"" ++ flat_map escaped text ++ codes "\"") ++ f.1 =
-            front_of (codes " \"") bytes rest e ∙ ap (λ (z : List ℕ). codes " \"" ++ z) spelled ∙ ap (λ (z : List ℕ). codes " \"" ++ (flat_map escaped z ++ (34 ∷ f.1))) e2
-            ∙ sym (append_assoc (codes " \"") (flat_map escaped text) (codes "\"" ++ f.1))
-            ∙ sym (append_assoc (codes " \"" ++ flat_map escaped text) (codes "\"") f.1) in
+        front_of (codes " \"") bytes rest e ∙ ap (λ (z : List ℕ). codes " \"" ++ z) spelled ∙ ap (λ (z : List ℕ). codes " \"" ++ (flat_map escaped z ++ (34 ∷ f.1))) e2
+        ∙ sym (append_assoc (codes " \"") (flat_map escaped text) (codes "\"" ++ f.1))
+        ∙ sym (append_assoc (codes " \"" ++ flat_map escaped text) (codes "\"") f.1) in
         subst (IsText bytes) same (
           front ∙ ap (λ (z : List ℕ). z ++ f.1) (sym (text_part-filled text full)),
           subst (λ (z : List ℕ). list_all byte_is_spelled z ≡ true) e2 good,
@@ -311,6 +312,6 @@ inline-found bytes inline h = by (behind (codes " {") bytes) refl h
         let (text, is, more) = then-inv some_text (before_brace rest) inline g in
         let (e2, utf8, full) = some_text-found text inline more in (
           front_of (codes " {") bytes rest e ∙ ap (λ (z : List ℕ). codes " {" ++ z) (before_brace-found rest text is) ∙ ap (λ (z : List ℕ). codes " {" ++ (z ++ codes "}")) e2
-          ∙ sym (append_assoc (codes " {") inline (codes "}")) ∙ sym (inline_part-filled inline full),
+              ∙ sym (append_assoc (codes " {") inline (codes "}")) ∙ sym (inline_part-filled inline full),
           utf8,
         )

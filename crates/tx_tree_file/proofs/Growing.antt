@@ -1,5 +1,5 @@
 -- A row more, behind all others.
-use Rattle.std.proofs.Common.{◌≡◌, ℕ, zero, suc, ◌+◌, ◌-◌, ◌<◌, ◌≤◌, ◌==◌, ◌&&◌, ◌||◌, Bool, true, false, cond, not, nat_le, nat_lt, List, [], ◌∷◌, ◌++◌, length, take, get_or, slice_index, Option, Some, None, Result, Ok, Err, IfSome, refl, ap, ap₂, sym, subst, subst₂, ◌∙◌, arith, append_assoc, append-nil, length-append, length-take-le, ◌≢◌}
+use Rattle.std.proofs.Common.{◌≡◌, ℕ, ◌+◌, ◌-◌, ◌<◌, ◌≤◌, ◌==◌, ◌||◌, Bool, true, false, cond, not, nat_le, nat_lt, List, [], ◌∷◌, ◌++◌, length, take, get_or, slice_index, Option, Some, None, Result, Ok, Err, refl, ap, sym, subst, subst₂, ◌∙◌, arith, append_assoc, length-append, length-take-le}
 use Rattle.std.specs.Option.{option_map_or}
 use Rattle.std.specs.List.{list_all}
 use Rattle.std.proofs.lemmas.List.{get_or-take, get_or_append_left}
@@ -13,7 +13,7 @@ use Rattle.tx_tree.specs.Mount.{mount_refusal, refusal_below, mounted, is_taken,
 use Rattle.tx_tree.specs.Refusal.{Answers, AnswersAtOnce}
 use Rattle.tx_tree.specs.Row.{has_number, placed}
 use Rattle.tx_tree.specs.TreeValue.{TreeValue}
-use Rattle.tx_tree.specs.Rows.{row_at, before_of, from_of, deeper, past, subtree_of, after_of, last_above}
+use Rattle.tx_tree.specs.Rows.{row_at, before_of, from_of, deeper, past, last_above}
 use Rattle.tx_tree.specs.declared.bind.Bind.{Bind}
 use Rattle.tx_tree.specs.declared.fault.TreeFault.{TreeFault}
 use Rattle.tx_tree.specs.declared.fault.TreeFault.TheVariants.{Grammar, NoNode, DuplicateId, TooMany, TooDeep, Root, Leaf, NotSiblings, NoMemory}
@@ -149,6 +149,7 @@ refusal_is rows made depth n new o shallow other =
   where
     rest : Option TreeFault
     rest = cond (made == 65536) (Some TooMany) (cond (is_taken new.id rows) (Some DuplicateId) None)
+
     by : (b : Bool) → cond (not b || false) (Some Leaf) rest ≡ cond (not b) (Some Leaf) rest
     by true = refl
     by false = refl
@@ -165,6 +166,7 @@ refused-fault rows made depth n line new fault more o shallow other size h =
   where
     Is : TreeFault → Type 0
     Is f = FaultIs (or_fault line (with_new rows (depth + 1) new) more) (refused f line)
+
     by : (a b c : Bool) → is_held (depth + 1) rows ≡ a → (length rows == 65536) ≡ b → is_taken new.id rows ≡ c
         → cond (not a) (Some Leaf) (cond b (Some TooMany) (cond c (Some DuplicateId) None)) ≡ Some fault → Is fault
     by false b c e f g h = subst Is (some-same h) (rw e refl)
@@ -223,8 +225,8 @@ pub grown-fault : (rows : List Row) (made depth n line d : ℕ) (new : NewRow) (
     → made ≡ length rows → mount_refusal rows made n new ≡ None → d ≡ depth + 1 → Leads d rest line (Err fault) → FaultIs (or_fault line (with_new rows d new) (rows_behind (pieces 10 rest) line)) fault
 grown-fault rows made depth n line d new rest fault o shallow other size may e leads =
     subst (λ (z : Result (List Row) LineFault). FaultIs z fault) (sym (
-      ap (λ (k : ℕ). or_fault line (with_new rows k new) (rows_behind (pieces 10 rest) line)) e
-      ∙ ap (λ z. or_fault line z (rows_behind (pieces 10 rest) line)) (allowed rows made depth n new o shallow other size may)
+    ap (λ (k : ℕ). or_fault line (with_new rows k new) (rows_behind (pieces 10 rest) line)) e
+    ∙ ap (λ z. or_fault line z (rows_behind (pieces 10 rest) line)) (allowed rows made depth n new o shallow other size may)
     )) (by fault leads)
   where
     by : (f : TreeFault) → Leads d rest line (Err f) → FaultIs (rows_behind (pieces 10 rest) line (record { before = rows; last = placed new (length rows + 1) (depth + 1) })) f
@@ -279,15 +281,15 @@ refused-here rows made depth n line d new rest fault told o shallow other size h
 pub first_grown : (tree : TreeValue) (row : NewRow) → tree.rows ≡ placed row 1 0 ∷ [] → tree.made ≡ 1 → IsGrown tree (1 ∷ [])
 first_grown tree row is made = record {
   above = subst (λ (z : List Row). IsPath z (1 ∷ [])) (sym is) (λ k inside. subst (λ (n : ℕ). IsOpen (placed row 1 0 ∷ []) n (slice_index (1 ∷ []) n)) (omega (arith, inside)) (record {
-      front = [];
-      row = placed row 1 0;
-      below = [];
-      is = refl;
-      number = refl;
-      at = refl;
-      new = refl;
-      deeper = refl;
-    }));
+    front = [];
+    row = placed row 1 0;
+    below = [];
+    is = refl;
+    number = refl;
+    at = refl;
+    new = refl;
+    deeper = refl;
+  }));
   some = omega arith;
   made = made ∙ sym (ap length is);
   numbers = subst₂ (λ (k : ℕ) (z : List Row). list_all (λ r. nat_le r.node.0 k) z ≡ true) (sym made) (sym is) refl;

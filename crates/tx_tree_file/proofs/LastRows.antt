@@ -1,5 +1,5 @@
 -- Reading on behind a last row.
-use Rattle.std.proofs.Common.{◌≡◌, ℕ, zero, suc, ◌+◌, ◌-◌, ◌*◌, ◌/◌, ◌%◌, ◌<◌, ◌≤◌, ◌==◌, ◌&&◌, Bool, true, false, cond, not, nat_le, List, [], ◌∷◌, ◌++◌, length, Option, Some, None, Result, Ok, Err, refl, ap, ap₂, sym, subst, ◌∙◌, arith, append_assoc, append-nil, ◌≢◌, leb-true}
+use Rattle.std.proofs.Common.{◌≡◌, ℕ, ◌+◌, ◌*◌, ◌/◌, ◌%◌, ◌≤◌, ◌==◌, Bool, true, false, cond, not, List, [], ◌∷◌, ◌++◌, length, Option, Some, None, Result, Ok, Err, refl, ap, sym, subst, ◌∙◌, arith, append_assoc, ◌≢◌, leb-true}
 use Rattle.std.proofs.lemmas.Bool.{false≢true}
 use Rattle.std.proofs.lemmas.Bool.Decides.{Decides-eqb}
 use Rattle.tx_tree_file.proofs.Repeats.{not_true}
@@ -17,8 +17,8 @@ use Rattle.tx_tree.specs.declared.row.Row.{Row}
 use Rattle.tx_tree_file.proofs.Fronts.{same-byte}
 use Rattle.tx_tree_file.proofs.FoundLines.{row-found}
 use Rattle.tx_tree_file.specs.Indent.{blanks, past_blanks, is_bind_line, may_stand}
-use Rattle.tx_tree_file.specs.Sections.{with_binds, rows_from, IsWidget, Leads}
-use Rattle.tx_tree_file.specs.TreeReading.{Begun, LineFault, binding, widget, bind_item, row_item, item_of, first_item, screen, row_of, bind_of, with_bind, with_new, with_item, next_line, or_fault, is_empty, rows_behind, rows_so_far, Tells}
+use Rattle.tx_tree_file.specs.Sections.{with_binds, IsWidget, Leads}
+use Rattle.tx_tree_file.specs.TreeReading.{Begun, binding, widget, bind_item, row_item, item_of, row_of, bind_of, with_bind, with_new, with_item, next_line, or_fault, is_empty, rows_behind, Tells}
 use Rattle.tx_tree_file.specs.declared.line.Item.{Item}
 use Rattle.tx_tree_file.specs.declared.line.Item.TheVariants.{Binding, Widget}
 use Rattle.tx_tree_file.specs.declared.section.Met.{Met}
@@ -170,8 +170,17 @@ row_item-inv depth line ended d new h =
         let (even, least, most) = stands-inv depth (blanks line) stands in
         let half : d ≡ blanks line / 2 = cc in
         let that : found ≡ new = cc in
-        record { utf8 = utf8; no_bind = e; even = even; least = least; most = most; few = few; row = subst (λ (z : NewRow). row_of (past_blanks line) ≡ Some z) that row;
-          other = subst (λ (z : NewRow). is_screen z.kind ≡ false) that other; half = half }
+        record {
+          utf8 = utf8;
+          no_bind = e;
+          even = even;
+          least = least;
+          most = most;
+          few = few;
+          row = subst (λ (z : NewRow). row_of (past_blanks line) ≡ Some z) that row;
+          other = subst (λ (z : NewRow). is_screen z.kind ≡ false) that other;
+          half = half;
+        }
 
 pub other_than : (a b : ℕ) → (a == b) ≡ false → a ≢ b
 other_than a b e same = absurd (false≢true (sym e ∙ (Decides-eqb a b).1 same))

@@ -1,5 +1,5 @@
 -- What is read of a whole file is spelled so.
-use Rattle.std.proofs.Common.{◌≡◌, ℕ, zero, suc, ◌+◌, ◌-◌, ◌*◌, ◌/◌, ◌%◌, ◌<◌, ◌≤◌, ◌==◌, ◌&&◌, ◌||◌, Bool, true, false, cond, not, nat_le, List, [], ◌∷◌, ◌++◌, length, drop, replicate, flat_map, fold, sum_by, Option, Some, None, Result, Ok, Err, refl, ap, ap₂, sym, subst, subst₂, ◌∙◌, arith, append_assoc, append-nil, length-append, ◌≢◌, codes, add-one}
+use Rattle.std.proofs.Common.{◌≡◌, ℕ, ◌+◌, ◌*◌, ◌/◌, ◌≤◌, ◌==◌, ◌&&◌, Bool, true, false, cond, not, List, [], ◌∷◌, ◌++◌, length, drop, replicate, flat_map, fold, Option, Some, None, Result, Ok, Err, refl, ap, ap₂, sym, subst, ◌∙◌, arith, append_assoc, append-nil, length-append, codes, add-one}
 use Rattle.std.specs.List.{list_all}
 use Rattle.std.specs.Option.{option_map_or}
 use Rattle.std.specs.Str.{is_utf8}
@@ -22,17 +22,17 @@ use Rattle.tx_tree.specs.declared.fault.TreeKind.{TreeKind}
 use Rattle.tx_tree.specs.declared.fault.TreeKind.TheVariants.{BadByte, BadIndent, TooDeep, Expected, Leaf, TooMany, DuplicateId}
 use Rattle.tx_tree.specs.declared.row.NewRow.{NewRow}
 use Rattle.tx_tree.specs.declared.row.Row.{Row}
-use Rattle.tx_tree_file.proofs.FoundLines.{IsRowText, row-found, IsBindText, bind-found, all-behind}
+use Rattle.tx_tree_file.proofs.FoundLines.{row-found, bind-found, all-behind}
 use Rattle.tx_tree_file.proofs.FoundParts.{both}
 use Rattle.tx_tree_file.proofs.Fronts.{same-byte}
 use Rattle.tx_tree_file.proofs.Growing.{above_front, all-snoc}
-use Rattle.tx_tree_file.proofs.LastRows.{ok-same, err-ok, ifs, ended-inv, item-inv, is_bind, is_widget, IsItem, IsRowItem, row_item-inv, other_than, some_piece}
+use Rattle.tx_tree_file.proofs.LastRows.{ok-same, err-ok, ifs, ended-inv, item-inv, is_bind, is_widget, IsRowItem, row_item-inv, other_than, some_piece}
 use Rattle.tx_tree_file.proofs.Repeats.{not_true}
 use Rattle.tx_tree_file.specs.FirstFault.{ids_differ, is_held, line_count}
 use Rattle.tx_tree_file.specs.Indent.{blanks, past_blanks, is_bind_line, may_stand}
 use Rattle.tx_tree_file.specs.Spelling.{indent, row_text, row_line, bind_text, bind_line, row_lines, spelling}
 use Rattle.tx_tree_file.specs.TreeFile.{is_typed, bind_is_typed, kind_is_typed, id_is_typed, kept, read_row, read_again, IsReading}
-use Rattle.tx_tree_file.specs.TreeReading.{Begun, LineFault, screen, first_item, with_first, first_line, binding, widget, bind_item, row_item, item_of, row_of, bind_of, with_bind, with_new, with_item, next_line, or_fault, is_empty, rows_behind, rows_so_far, rows_of_lines, tree_of, Tells, FaultIs}
+use Rattle.tx_tree_file.specs.TreeReading.{Begun, LineFault, screen, first_item, with_first, first_line, bind_item, row_item, item_of, row_of, bind_of, with_bind, with_new, with_item, next_line, or_fault, is_empty, rows_behind, rows_so_far, rows_of_lines, tree_of, Tells, FaultIs}
 use Rattle.tx_tree_file.specs.declared.line.Item.{Item}
 use Rattle.tx_tree_file.specs.declared.line.Item.TheVariants.{Binding, Widget}
 
@@ -124,8 +124,8 @@ spelled-bind : (last : Row) (bind : Bind) → is_spelled last ≡ true → key_i
 spelled-bind last bind h e =
     change (no_repeats last.classes.names) _ _ (change (kind_is_spelled last.kind) _ _ (change (list_all byte_is_spelled last.text) _ _ (change (list_all no_line_feed last.inline) _ _
     (λ rest. both (list_all (λ bind. key_is_spelled bind.key) (last.binds ++ bind ∷ [])) (private_is_spelled last.kind last.private)
-      (all-snoc (λ bind. key_is_spelled bind.key) last.binds bind (and-left (list_all (λ bind. key_is_spelled bind.key) last.binds) _ rest) e)
-      (and-right (list_all (λ bind. key_is_spelled bind.key) last.binds) _ rest))))) h
+    (all-snoc (λ bind. key_is_spelled bind.key) last.binds bind (and-left (list_all (λ bind. key_is_spelled bind.key) last.binds) _ rest) e)
+    (and-right (list_all (λ bind. key_is_spelled bind.key) last.binds) _ rest))))) h
 
 pub stands-bind : (begun : Begun) (bind : Bind) → Stands begun → bind_is_typed bind ≡ true → key_is_spelled bind.key ≡ true → Stands (record begun { last = with_bind bind begun.last })
 stands-bind begun bind h typed spelled = record {
@@ -243,13 +243,13 @@ next-bind begun line bind h deep is =
         record {
           stands = stands-bind begun bind h text.typed text.spelled;
           text = spelling-bind begun.before begun.last bind
-            ∙ ap (λ (z : List ℕ). spelling (rows_so_far begun) ++ z) (sym (ended_line line (indent (begun.last.depth + 1)) (bind_text bind)
+              ∙ ap (λ (z : List ℕ). spelling (rows_so_far begun) ++ z) (sym (ended_line line (indent (begun.last.depth + 1)) (bind_text bind)
               (indented line (begun.last.depth + 1) (bind_stands-inv begun.last.depth (blanks line) stands) ∙ ap (λ (z : List ℕ). indent (begun.last.depth + 1) ++ z) text.text)));
           lines =
-            let a = count-last begun.before (with_bind bind begun.last) in
-            let b = count-last begun.before begun.last in
-            let c = length-append begun.last.binds (bind ∷ []) in
-            omega (arith, a, b, c);
+              let a = count-last begun.before (with_bind bind begun.last) in
+              let b = count-last begun.before begun.last in
+              let c = length-append begun.last.binds (bind ∷ []) in
+              omega (arith, a, b, c);
           depth = deep;
         }
     by false stands e =
@@ -269,7 +269,7 @@ next-row begun line d new h deep whole is may =
     record {
       stands = stands-new begun line d new h item whole deep may;
       text = spelling-last (rows_so_far begun) row ∙ ap (λ (z : List ℕ). spelling (rows_so_far begun) ++ z) (alone-lines row text.alone
-        ∙ sym (ended_line line (indent d) (row_text row) (indented line d even ∙ ap (λ (z : List ℕ). indent d ++ z) text.text)));
+          ∙ sym (ended_line line (indent d) (row_text row) (indented line d even ∙ ap (λ (z : List ℕ). indent d ++ z) text.text)));
       lines = let a = count-last (rows_so_far begun) row in let b = ap length text.alone in omega (arith, a, b);
       depth = omega (arith, half, item.most, item.even, few, deep);
     }
@@ -391,7 +391,7 @@ found-behind (line ∷ second ∷ lines) done begun rows h deep whole is =
       is = rest.is;
       stands = rest.stands;
       text = rest.text ∙ ap (λ (z : List ℕ). z ++ joined (second ∷ lines)) good.text ∙ append_assoc (spelling (rows_so_far begun)) (line ++ codes "\n") (joined (second ∷ lines))
-        ∙ ap (λ (z : List ℕ). spelling (rows_so_far begun) ++ z) (append_assoc line (codes "\n") (joined (second ∷ lines)));
+          ∙ ap (λ (z : List ℕ). spelling (rows_so_far begun) ++ z) (append_assoc line (codes "\n") (joined (second ∷ lines)));
     }
 
 pub record IsFoundFile (bytes : List ℕ) (rows : List Row) : Type 0 where
@@ -406,6 +406,7 @@ file-found bytes rows h = subst (λ (z : List ℕ). IsFoundFile z rows) (joined-
     first : (r : Result NewRow TreeKind) (begun : Begun) → with_first r ≡ Ok begun → (new : NewRow) × (r ≡ Ok new) × (begun ≡ record { before = []; last = placed new 1 0 })
     first (Err kind) begun h = err-ok h
     first (Ok new) begun h = (new, refl, sym (ok-same h))
+
     by : (ps : List (List ℕ)) → list_all (list_all no_line_feed) ps ≡ true → rows_of_lines ps ≡ Ok rows → IsFoundFile (joined ps) rows
     by [] whole g = err-ok g
     by (line ∷ []) whole g =

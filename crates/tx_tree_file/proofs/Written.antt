@@ -1,5 +1,5 @@
 -- A walk over the rows, each of which is written.
-use Rattle.std.proofs.Common.{◌≡◌, ℕ, ◌+◌, ◌<◌, ◌≤◌, Bool, true, false, cond, List, [], ◌∷◌, ◌++◌, length, flat_map, Option, None, Some, is_some, option_map, refl, ap, sym, ◌∙◌, arith, append_assoc}
+use Rattle.std.proofs.Common.{◌≡◌, ℕ, ◌<◌, ◌≤◌, Bool, true, false, cond, List, [], ◌∷◌, ◌++◌, length, Option, None, Some, is_some, option_map, refl, ap, sym, ◌∙◌, arith, append_assoc}
 use Rattle.tx_tree.specs.Row.{plain}
 use Rattle.tx_tree.specs.Rows.{row_at, from_of, next_of, first_row, second_row, count_of}
 use Rattle.tx_tree.specs.Walk.{rest_from}

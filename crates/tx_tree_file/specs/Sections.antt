@@ -1,5 +1,5 @@
 -- The lines from one row line to the next, and where the next row goes.
-use Rattle.std.specs.Prelude.{◌≡◌, ◌≤◌, ◌<◌, ◌+◌, ℕ, true, false, not, nat_lt, nat_le, List, [], ◌∷◌, ◌++◌, length, slice_index, Option, Some, None, Result, Ok, Err, IfSome}
+use Rattle.std.specs.Prelude.{◌≡◌, ◌≤◌, ◌<◌, ◌+◌, ℕ, true, false, not, nat_lt, nat_le, List, [], ◌∷◌, ◌++◌, length, slice_index, Option, Some, None, Result, Ok, Err}
 use Rattle.std.specs.List.{list_all}
 use Rattle.tx_read.specs.Pieces.{pieces}
 use Rattle.tx_tree.specs.Kind.{is_screen}
@@ -12,7 +12,7 @@ use Rattle.tx_tree.specs.declared.row.NewRow.{NewRow}
 use Rattle.tx_tree.specs.declared.row.Row.{Row}
 use Rattle.tx_tree_file.specs.declared.section.Met.{Met}
 use Rattle.tx_tree_file.specs.declared.section.Section.{Section}
-use Rattle.tx_tree_file.specs.TreeReading.{Begun, LineFault, with_new, or_fault, rows_behind}
+use Rattle.tx_tree_file.specs.TreeReading.{LineFault, with_new, or_fault, rows_behind}
 
 -- the last row with bindings more
 abbrev pub with_binds : List Bind → Row → Row

@@ -1,10 +1,10 @@
 //! The tree file: how a widget tree is written as a text, and read.
 #![tactic(auto)]
 
-mod parts;
 mod bind_parts;
 pub mod laws;
 mod line;
+mod parts;
 mod read;
 mod row_parts;
 mod section;

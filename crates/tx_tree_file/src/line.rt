@@ -134,7 +134,13 @@ fn bind_item(text: &[u8], ended: bool, number: u32) -> Result<Item, TreeFault>
     }
 }
 
-fn row_item(alloc: Global, count: usize, text: &[u8], ended: bool, number: u32) -> Result<Item, TreeFault>
+fn row_item(
+    alloc: Global,
+    count: usize,
+    text: &[u8],
+    ended: bool,
+    number: u32,
+) -> Result<Item, TreeFault>
     requires few { count ≤ 128 }
     requires size { length text.now < 2 ^ 32 }
     ensures tells { Tells number (row_item count text.now ended) result }
@@ -162,7 +168,13 @@ fn is_screen(kind: Kind) -> bool
 
 /// What a line behind a row of this depth is: a binding, or another row. `ended` says that a line
 /// feed stands behind it.
-pub fn item_of(alloc: Global, depth: u32, line: &[u8], ended: bool, number: u32) -> Result<Item, TreeFault>
+pub fn item_of(
+    alloc: Global,
+    depth: u32,
+    line: &[u8],
+    ended: bool,
+    number: u32,
+) -> Result<Item, TreeFault>
     requires deep { depth ≤ 63 }
     requires size { length line.now < 2 ^ 32 }
     ensures tells { Tells number (item_of depth line.now ended) result }

@@ -34,7 +34,12 @@ pub fn add<T: Drop>(items: &mut Vec<T>, item: T) -> Result<(), AllocError>
 }
 
 /// Reads the lines behind a row of this depth up to the next row, where so many lines are done.
-pub fn read_section(alloc: Global, depth: u32, rest: &[u8], done: u32) -> Result<Section<'_>, TreeFault>
+pub fn read_section(
+    alloc: Global,
+    depth: u32,
+    rest: &[u8],
+    done: u32,
+) -> Result<Section<'_>, TreeFault>
     requires deep { depth ≤ 63 }
     requires size { done + length rest.now < 2 ^ 32 }
     ensures leads { Leads depth rest.now done result }

@@ -2,9 +2,7 @@
 use crate::{read_tree, write_tree};
 use std::alloc::Global;
 use std::test::Fail;
-use tx_tree::{
-    Binds, Kind, Name, Names, NewRow, NodeId, Private, Text, Tree, TreeFault, TreeKind,
-};
+use tx_tree::{Binds, Kind, Name, Names, NewRow, NodeId, Private, Text, Tree, TreeFault, TreeKind};
 
 // Longer texts than this stand in no test.
 const LONGEST: usize = 10_000;
@@ -239,7 +237,8 @@ fn the_deepest_rows(rt: HostRuntime) -> Result<(), Fail> {
 #[test]
 fn what_is_kept_of_a_row(rt: HostRuntime) -> Result<(), Fail> {
     let alloc = rt.alloc();
-    let text = "Screen\n  Input \"ab\"\n  Checkbox on\n  ProgressBar total 7\n  ProgressBar\n  OptionList\n";
+    let text =
+        "Screen\n  Input \"ab\"\n  Checkbox on\n  ProgressBar total 7\n  ProgressBar\n  OptionList\n";
     let Ok(tree) = read(alloc, text.as_bytes())? else {
         return Err(Fail::from("refused"));
     };
@@ -267,7 +266,8 @@ fn what_is_kept_of_a_row(rt: HostRuntime) -> Result<(), Fail> {
     Ok(())
 }
 
-const PARCELS: &str = "Screen\n  bind ctrl+d toggle_dark\n  Header \"Parcels\"\n  Footer \"^d dark  tab next\"\n  Vertical #side\n    Label .title \"Depots\"\n    OptionList #depots \"North\\nSouth\\nEast\"\n  Vertical #main\n    Input #find\n    Grid #keys\n      Button #new \"New\"\n      Button #open \"Open\"\n      Button #close \"Close\"\n      Checkbox #late \"Late only\"\n    ProgressBar #load total 40\n";
+const PARCELS: &str =
+    "Screen\n  bind ctrl+d toggle_dark\n  Header \"Parcels\"\n  Footer \"^d dark  tab next\"\n  Vertical #side\n    Label .title \"Depots\"\n    OptionList #depots \"North\\nSouth\\nEast\"\n  Vertical #main\n    Input #find\n    Grid #keys\n      Button #new \"New\"\n      Button #open \"Open\"\n      Button #close \"Close\"\n      Checkbox #late \"Late only\"\n    ProgressBar #load total 40\n";
 
 #[test]
 fn an_application(rt: HostRuntime) -> Result<(), Fail> {
@@ -313,8 +313,14 @@ fn edits_of_a_tree_that_was_read(rt: HostRuntime) -> Result<(), Fail> {
     let Ok(mut tree) = read(alloc, b"Screen\n  Static #a\n  Static #b\n")? else {
         return Err(Fail::from("refused"));
     };
-    refused(tree.mount(NodeId(1), static_row(alloc, "a")?), TreeFault::DuplicateId)?;
-    refused(tree.mount(NodeId(2), static_row(alloc, "a")?), TreeFault::Leaf)?;
+    refused(
+        tree.mount(NodeId(1), static_row(alloc, "a")?),
+        TreeFault::DuplicateId,
+    )?;
+    refused(
+        tree.mount(NodeId(2), static_row(alloc, "a")?),
+        TreeFault::Leaf,
+    )?;
     tree.move_before(NodeId(3), NodeId(2))?;
     if !tree.spelled() {
         return Err(Fail::from("the tree has no spelling"));
@@ -323,9 +329,15 @@ fn edits_of_a_tree_that_was_read(rt: HostRuntime) -> Result<(), Fail> {
     if written.as_slice() != b"Screen\n  Static #b\n  Static #a\n".as_slice() {
         return Err(Fail::from("another text"));
     }
-    refused(tree.move_before(NodeId(3), NodeId(1)), TreeFault::NotSiblings)?;
+    refused(
+        tree.move_before(NodeId(3), NodeId(1)),
+        TreeFault::NotSiblings,
+    )?;
     refused(tree.remove(NodeId(1)), TreeFault::Root)?;
-    refused(tree.set_inline(NodeId(9), Text::of(alloc, "")?), TreeFault::NoNode)?;
+    refused(
+        tree.set_inline(NodeId(9), Text::of(alloc, "")?),
+        TreeFault::NoNode,
+    )?;
     refused(tree.children(NodeId(9)), TreeFault::NoNode)?;
     refused(tree.reserve_classes(NodeId(9), 1), TreeFault::NoNode)?;
     if tree.rows()?.len() == 3 {

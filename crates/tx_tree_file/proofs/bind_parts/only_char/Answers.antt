@@ -1,4 +1,4 @@
-use Rattle.std.proofs.Common.{sym, ◌∙◌, ap}
+use Rattle.std.proofs.Common.{sym, ◌∙◌}
 use Rattle.tx_tree_file.proofs.CharLemmas.{one_char, two_chars}
 use Rattle.tx_tree_file.proofs.bind_parts.only_char.Goals as goal
 

@@ -1,4 +1,4 @@
-use Rattle.std.proofs.Common.{sym, ◌∙◌, ap, Option, Some, List, ℕ, arith, option_map}
+use Rattle.std.proofs.Common.{sym, ◌∙◌, ap, arith, option_map}
 use Rattle.tx_tree_file.proofs.FoundLines.{short_text}
 use Rattle.tx_tree_file.proofs.line.row_of.Goals as goal
 

@@ -1,11 +1,8 @@
-use Rattle.std.proofs.Common.{sym, ◌∙◌, ap, arith, subst, ◌+◌, ◌-◌, ◌≡◌, ◌≤◌, refl, length, Result, List, ℕ, ◌++◌, ◌∷◌, []}
+use Rattle.std.proofs.Common.{◌∙◌, ap, arith, ◌+◌, ◌-◌, ◌≡◌, ◌≤◌, refl, length, List, ℕ, ◌++◌, ◌∷◌, []}
 use Rattle.tx_tree.specs.Mount.{mounted, mount_refusal}
 use Rattle.tx_tree.specs.declared.row.NewRow.{NewRow}
 use Rattle.tx_tree.specs.declared.row.NodeId.{NodeId}
-use Rattle.tx_tree.specs.declared.row.Row.{Row}
-use Rattle.tx_tree_file.specs.Sections.{IsOpen}
-use Rattle.tx_tree_file.specs.TreeReading.{LineFault, FaultIs, or_fault, with_new}
-use Rattle.tx_tree_file.proofs.Growing.{refused-here, at_once-ok, at_once-err, answers-err, fault_of, grown-rows, grown-fault, grown, path_size, node_above, met_few}
+use Rattle.tx_tree_file.proofs.Growing.{refused-here, at_once-ok, at_once-err, answers-err, fault_of, grown-rows, grown-fault, grown, node_above, met_few}
 use Rattle.tx_tree_file.proofs.read.add_row.Goals as goal
 
 pub returns-in-Err-clause-fault : goal.returns-in-Err-clause-fault

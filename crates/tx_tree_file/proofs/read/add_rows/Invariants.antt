@@ -1,4 +1,4 @@
-use Rattle.std.proofs.Common.{◌≡◌, ◌+◌, ◌-◌, ◌^◌, ℕ, length, Option, Some, None, IfSome}
+use Rattle.std.proofs.Common.{◌≡◌, ◌-◌, ◌^◌, length, IfSome}
 use Rattle.tx_tree_file.specs.Sections.{rows_from, IsMet, IsGrown}
 use Rattle.tx_tree_file.proofs.LastRows.{bytes_left}
 use Rattle.tx_tree_file.proofs.read.add_rows.Given as goal

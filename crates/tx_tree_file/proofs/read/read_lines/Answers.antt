@@ -1,4 +1,4 @@
-use Rattle.std.proofs.Common.{sym, ◌∙◌, ap, arith, true, subst, Result, List}
+use Rattle.std.proofs.Common.{arith, true, subst, Result, List}
 use Rattle.tx_tree.specs.declared.row.Row.{Row}
 use Rattle.tx_tree_file.specs.TreeReading.{LineFault, Reads}
 use Rattle.tx_tree_file.proofs.LastRows.{piece_short}

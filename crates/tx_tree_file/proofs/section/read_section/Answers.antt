@@ -1,6 +1,5 @@
-use Rattle.std.proofs.Common.{sym, ◌∙◌, ap, arith, Option, Some, List, ℕ, true, Ok, Err, subst}
-use Rattle.tx_tree_file.specs.TreeReading.{item_of, Tells}
-use Rattle.tx_tree_file.proofs.LastRows.{leads-fault, leads-last-fault, keeps-bind, leads-row, leads-end, widget-read, unended, piece_short}
+use Rattle.std.proofs.Common.{◌∙◌, ap, arith, true, Ok}
+use Rattle.tx_tree_file.proofs.LastRows.{leads-fault, keeps-bind, leads-row, widget-read, unended, piece_short}
 use Rattle.tx_tree_file.proofs.section.read_section.Goals as goal
 
 pub item_of-requires-clause-size : goal.item_of-requires-clause-size

@@ -1,4 +1,4 @@
-use Rattle.std.proofs.Common.{◌≡◌, ◌≤◌, ◌+◌, ℕ, List, length}
+use Rattle.std.proofs.Common.{◌≡◌, ◌≤◌, ◌+◌, List, length}
 use Rattle.tx_read.specs.Pieces.{pieces}
 use Rattle.tx_tree.specs.declared.row.Row.{Row}
 use Rattle.tx_tree_file.specs.Sections.{with_binds}
