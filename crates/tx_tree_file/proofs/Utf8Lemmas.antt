@@ -1,7 +1,7 @@
 -- Bytes that are UTF-8, and bytes that aren't.
 use Rattle.std.proofs.Common.{◌≡◌, ℕ, Bool, true, false, List, None, refl, IsUtf8}
 use Rattle.std.specs.Str.{is_utf8}
-use Rattle.std.proofs.lemmas.Str.{IsUtf8-from_is_utf8, IsUtf8-from_ascii}
+use Rattle.std.proofs.lemmas.Str.{IsUtf8-from_is_utf8, IsUtf8-from_ascii, is_utf8-from_IsUtf8}
 use Rattle.tx_tree.specs.Name.{is_name}
 use Rattle.tx_tree.proofs.NameBytes.{IsAscii-name}
 use Rattle.tx_tree_file.specs.Parts.{name_of}
@@ -22,3 +22,6 @@ no_name bytes h = by (is_name bytes) refl
     by : (b : Bool) → is_name bytes ≡ b → None ≡ name_of bytes
     by true e = absurd (h (name_utf8 bytes e))
     by false e = rw e refl
+
+pub text_utf8 : (bytes : List ℕ) → IsUtf8 bytes → is_utf8 bytes ≡ true
+text_utf8 bytes u = is_utf8-from_IsUtf8 bytes u

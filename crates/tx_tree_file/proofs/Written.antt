@@ -7,6 +7,47 @@ use Rattle.tx_tree.specs.declared.row.NodeId.{NodeId}
 use Rattle.tx_tree.specs.declared.row.Row.{Row}
 use Rattle.tx_tree.proofs.Listings.{left_from, found_first, row_at-from, rest_from-next}
 use Rattle.tx_tree_file.specs.Spelling.{row_lines, spelling}
+use Rattle.tx_tree_file.specs.TreeFile.{is_typed, line_is_typed, bind_is_typed, kind_is_typed, id_is_typed}
+use Rattle.std.specs.List.{list_all}
+use Rattle.std.specs.Str.{is_utf8}
+use Rattle.std.proofs.Common.{◌&&◌}
+use Rattle.tx_tree.specs.Name.{is_name}
+
+-- a row is as its types say where its line is, and its bindings are
+pub whole_typed : (row : Row) → line_is_typed row ≡ true → list_all bind_is_typed row.binds ≡ true → is_typed row ≡ true
+whole_typed row h e =
+    by (kind_is_typed row.kind) (id_is_typed row.id) (list_all is_name row.classes.names) (is_utf8 row.text) (is_utf8 row.inline) h
+  where
+    by : (a b c d f : Bool) → (a && (b && (c && (d && f)))) ≡ true → (a && (b && (c && (d && (f && list_all bind_is_typed row.binds))))) ≡ true
+    by true true true true true g = e
+    by true true true true false g = g
+    by true true true false f g = g
+    by true true false d f g = g
+    by true false c d f g = g
+    by false b c d f g = g
+
+-- the rows that are left, once a row was written
+pub typed-row : (rows : List Row) → ((k : ℕ) → count_of k rows ≤ 1) → (n : NodeId) (here next : Option NodeId) (row : Row)
+    → here ≡ Some n → next ≡ option_map (λ r. r.node) (next_of n.0 rows) → Some (plain row) ≡ row_at n.0 rows → is_typed row ≡ true
+    → list_all is_typed (rest_from here rows) ≡ list_all is_typed rows → list_all is_typed (rest_from next rows) ≡ list_all is_typed rows
+typed-row rows once n here next row eh en er typed done =
+    let (tail, e) = found_first (plain row) (from_of n.0 rows) (er ∙ row_at-from n.0 rows) in
+    let rest : rest_from next rows ≡ tail = ap (λ (o : Option NodeId). rest_from o rows) en ∙ rest_from-next n.0 rows once (plain row) tail e in
+    let was : rest_from here rows ≡ plain row ∷ tail = ap (λ (o : Option NodeId). rest_from o rows) eh ∙ e in
+    ap (list_all is_typed) rest ∙ ap (λ (b : Bool). b && list_all is_typed tail) (sym typed) ∙ ap (list_all is_typed) (sym was) ∙ done
+
+-- there is no row, so nothing is left
+pub typed-none : (rows : List Row) (n : NodeId) (here next : Option NodeId) → here ≡ Some n → next ≡ option_map (λ r. r.node) (next_of n.0 rows) → None ≡ row_at n.0 rows
+    → list_all is_typed (rest_from here rows) ≡ list_all is_typed rows → list_all is_typed (rest_from next rows) ≡ list_all is_typed rows
+typed-none rows n here next eh en er done =
+    let empty : from_of n.0 rows ≡ [] = nothing (from_of n.0 rows) (sym (row_at-from n.0 rows) ∙ sym er) in
+    let was : rest_from here rows ≡ [] = ap (λ (o : Option NodeId). rest_from o rows) eh ∙ empty in
+    let gone : next ≡ None = en ∙ ap (λ (z : List Row). option_map (λ r. r.node) (second_row z)) empty in
+    ap (λ (o : Option NodeId). list_all is_typed (rest_from o rows)) gone ∙ ap (list_all is_typed) (sym was) ∙ done
+  where
+    nothing : (xs : List Row) → first_row xs ≡ None → xs ≡ []
+    nothing [] h = refl
+    nothing (x ∷ xs) h = cc
 
 one_or_none : (b : Bool) → cond {A = ℕ} b 1 0 ≤ 1
 one_or_none true = omega arith

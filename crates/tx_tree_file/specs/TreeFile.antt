@@ -40,6 +40,15 @@ action_is_typed action = true
 abbrev pub bind_is_typed : Bind → Bool
 bind_is_typed bind = key_is_typed bind.key && action_is_typed bind.action
 
+-- a row without its bindings
+abbrev pub line_is_typed : Row → Bool
+line_is_typed row =
+    kind_is_typed row.kind
+    && (id_is_typed row.id
+    && (list_all is_name row.classes.names
+    && (is_utf8 row.text
+    && is_utf8 row.inline)))
+
 abbrev pub is_typed : Row → Bool
 is_typed row =
     kind_is_typed row.kind

@@ -1,10 +1,15 @@
 //! The parts of a line, each added at the end of what was written.
-ghost use Rattle.std.specs.Prelude.{◌≡◌, ◌+◌, ◌++◌, OnOk, codes, encode_utf8, flat_map, decimal};
+ghost use Rattle.std.specs.List.{list_all};
+ghost use Rattle.std.specs.Str.{is_utf8, all_scalars};
+ghost use Rattle.tx_tree.specs.Kind.{kind_name};
+ghost use Rattle.tx_tree.specs.Name.{is_name};
+ghost use Rattle.tx_tree_file.specs.TreeFile.{id_is_typed, kind_is_typed, key_is_typed, action_is_typed};
+ghost use Rattle.std.specs.Prelude.{◌≡◌, ◌+◌, ◌++◌, ◌∷◌, [], true, OnOk, codes, encode_utf8, flat_map, decimal};
 ghost use Rattle.tx_tree.specs.declared.bind.Action.TheVariants.{ToggleClass};
 ghost use Rattle.tx_tree_file.specs.Spelling.{indent, id_part, class_parts, disabled_part, private_part, escaped, text_part, inline_part, key_name, jump_name, action_name, priority_part};
 
 use std::alloc::AllocError;
-use tx_tree::{Action, Jump, Key, Name, Private};
+use tx_tree::{Action, Jump, Key, Kind, Name, Private};
 
 /// Two blanks for each depth.
 pub fn push_indent(out: &mut Vec<u8>, depth: u32) -> Result<(), AllocError>
@@ -24,8 +29,20 @@ pub fn push_bind_indent(out: &mut Vec<u8>, depth: u32) -> Result<(), AllocError>
     out.extend_from_slice(b"  ")
 }
 
+/// The name of the kind.
+pub fn push_kind(out: &mut Vec<u8>, kind: &Kind) -> Result<(), AllocError>
+    ensures text { OnOk result (out.new.items ≡ out.old.items ++ kind_name kind.now) }
+    ensures typed { OnOk result (kind_is_typed kind.now ≡ true) }
+{
+    match kind {
+        Kind::Handed(name) => out.extend_from_slice(name.as_bytes()),
+        _ => out.extend_from_slice(kind.name().as_bytes()),
+    }
+}
+
 pub fn push_id(out: &mut Vec<u8>, id: &Option<Name>) -> Result<(), AllocError>
-    ensures { OnOk result (out.new.items ≡ out.old.items ++ id_part id.now) }
+    ensures text { OnOk result (out.new.items ≡ out.old.items ++ id_part id.now) }
+    ensures typed { OnOk result (id_is_typed id.now ≡ true) }
 {
     match id {
         Some(id) => {
@@ -37,7 +54,8 @@ pub fn push_id(out: &mut Vec<u8>, id: &Option<Name>) -> Result<(), AllocError>
 }
 
 pub fn push_classes(out: &mut Vec<u8>, classes: &[Name]) -> Result<(), AllocError>
-    ensures { OnOk result (out.new.items ≡ out.old.items ++ class_parts classes.now) }
+    ensures text { OnOk result (out.new.items ≡ out.old.items ++ class_parts classes.now) }
+    ensures typed { OnOk result (list_all is_name classes.now ≡ true) }
 {
     for class in classes {
         out.extend_from_slice(b" .")?;
@@ -101,8 +119,10 @@ fn push_all_escaped(out: &mut Vec<u8>, text: &[u8]) -> Result<(), AllocError>
 }
 
 /// The text in quotes, where there is one.
+#[tactic(auto, using(crate::proofs::Utf8Lemmas::text_utf8))]
 pub fn push_text(out: &mut Vec<u8>, text: &str) -> Result<(), AllocError>
-    ensures { OnOk result (out.new.items ≡ out.old.items ++ text_part text.now) }
+    ensures text { OnOk result (out.new.items ≡ out.old.items ++ text_part text.now) }
+    ensures utf8 { is_utf8 text.now ≡ true }
 {
     if text.is_empty() {
         return Ok(());
@@ -113,8 +133,10 @@ pub fn push_text(out: &mut Vec<u8>, text: &str) -> Result<(), AllocError>
 }
 
 /// The inline text in braces, where there is one.
+#[tactic(auto, using(crate::proofs::Utf8Lemmas::text_utf8))]
 pub fn push_inline(out: &mut Vec<u8>, inline: &str) -> Result<(), AllocError>
-    ensures { OnOk result (out.new.items ≡ out.old.items ++ inline_part inline.now) }
+    ensures text { OnOk result (out.new.items ≡ out.old.items ++ inline_part inline.now) }
+    ensures utf8 { is_utf8 inline.now ≡ true }
 {
     if inline.is_empty() {
         return Ok(());
@@ -125,7 +147,8 @@ pub fn push_inline(out: &mut Vec<u8>, inline: &str) -> Result<(), AllocError>
 }
 
 fn push_character(out: &mut Vec<u8>, character: char) -> Result<(), AllocError>
-    ensures { OnOk result (out.new.items ≡ out.old.items ++ encode_utf8 character) }
+    ensures text { OnOk result (out.new.items ≡ out.old.items ++ encode_utf8 character) }
+    ensures typed { all_scalars (character ∷ []) ≡ true }
 {
     let mut buffer = [0u8; 4];
     out.extend_from_slice(character.encode_utf8(&mut buffer).as_bytes())
@@ -133,7 +156,8 @@ fn push_character(out: &mut Vec<u8>, character: char) -> Result<(), AllocError>
 
 /// A key as it is written: a printable character itself, or a name.
 pub fn push_key(out: &mut Vec<u8>, key: Key) -> Result<(), AllocError>
-    ensures { OnOk result (out.new.items ≡ out.old.items ++ key_name key) }
+    ensures text { OnOk result (out.new.items ≡ out.old.items ++ key_name key) }
+    ensures typed { OnOk result (key_is_typed key ≡ true) }
 {
     match key {
         Key::Char(' ') => out.extend_from_slice(b"space"),
@@ -177,7 +201,8 @@ fn push_jump(out: &mut Vec<u8>, jump: Jump) -> Result<(), AllocError>
 }
 
 fn push_toggle(out: &mut Vec<u8>, class: &Name) -> Result<(), AllocError>
-    ensures { OnOk result (out.new.items ≡ out.old.items ++ action_name (ToggleClass class.now)) }
+    ensures text { OnOk result (out.new.items ≡ out.old.items ++ action_name (ToggleClass class.now)) }
+    ensures typed { OnOk result (is_name class.now ≡ true) }
 {
     out.extend_from_slice(b"toggle_class ")?;
     out.extend_from_slice(class.as_bytes())
@@ -185,7 +210,8 @@ fn push_toggle(out: &mut Vec<u8>, class: &Name) -> Result<(), AllocError>
 
 /// An action as it is written.
 pub fn push_action(out: &mut Vec<u8>, action: Action) -> Result<(), AllocError>
-    ensures { OnOk result (out.new.items ≡ out.old.items ++ action_name action) }
+    ensures text { OnOk result (out.new.items ≡ out.old.items ++ action_name action) }
+    ensures typed { OnOk result (action_is_typed action ≡ true) }
 {
     match action {
         Action::FocusNext => out.extend_from_slice(b"focus_next"),

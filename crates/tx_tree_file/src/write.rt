@@ -2,21 +2,23 @@
 ghost use Rattle.std.specs.Prelude.{◌≡◌, ◌++◌, OnOk, IfOk, true, flat_map};
 ghost use Rattle.std.specs.List.{list_all};
 ghost use Rattle.tx_tree.specs.Spelled.{is_spelled};
+ghost use Rattle.tx_tree_file.specs.TreeFile.{bind_is_typed, line_is_typed, is_typed};
 ghost use Rattle.tx_tree_file.specs.Spelling.{row_line, bind_line, row_lines, spelling};
 
 use crate::parts::{
     push_action, push_bind_indent, push_classes, push_disabled, push_id, push_indent, push_inline,
-    push_key, push_priority, push_private, push_text,
+    push_key, push_kind, push_priority, push_private, push_text,
 };
 use std::alloc::{AllocError, Global};
 use tx_tree::{Bind, NoMemory, Row, Tree};
 
 #[tactic(auto, using(crate::proofs::Appends::nine_parts))]
 fn push_row_line(out: &mut Vec<u8>, row: &Row) -> Result<(), AllocError>
-    ensures { OnOk result (out.new.items ≡ out.old.items ++ row_line row.now) }
+    ensures text { OnOk result (out.new.items ≡ out.old.items ++ row_line row.now) }
+    ensures typed { OnOk result (line_is_typed row.now ≡ true) }
 {
     push_indent(out, row.depth)?;
-    out.extend_from_slice(row.kind.name().as_bytes())?;
+    push_kind(out, &row.kind)?;
     push_id(out, &row.id)?;
     push_classes(out, row.classes.as_slice())?;
     push_disabled(out, row.disabled)?;
@@ -29,7 +31,8 @@ fn push_row_line(out: &mut Vec<u8>, row: &Row) -> Result<(), AllocError>
 /// A binding of a row of this depth.
 #[tactic(auto, using(crate::proofs::Appends::bind_parts))]
 fn push_bind_line(out: &mut Vec<u8>, depth: u32, bind: &Bind) -> Result<(), AllocError>
-    ensures { OnOk result (out.new.items ≡ out.old.items ++ bind_line depth bind.now) }
+    ensures text { OnOk result (out.new.items ≡ out.old.items ++ bind_line depth bind.now) }
+    ensures typed { OnOk result (bind_is_typed bind.now ≡ true) }
 {
     push_bind_indent(out, depth)?;
     out.extend_from_slice(b"bind ")?;
@@ -41,7 +44,8 @@ fn push_bind_line(out: &mut Vec<u8>, depth: u32, bind: &Bind) -> Result<(), Allo
 }
 
 fn push_bind_lines(out: &mut Vec<u8>, depth: u32, binds: &[Bind]) -> Result<(), AllocError>
-    ensures { OnOk result (out.new.items ≡ out.old.items ++ flat_map (bind_line depth) binds.now) }
+    ensures text { OnOk result (out.new.items ≡ out.old.items ++ flat_map (bind_line depth) binds.now) }
+    ensures typed { OnOk result (list_all bind_is_typed binds.now ≡ true) }
 {
     for bind in binds {
         push_bind_line(out, depth, bind)?;
@@ -50,8 +54,10 @@ fn push_bind_lines(out: &mut Vec<u8>, depth: u32, binds: &[Bind]) -> Result<(), 
 }
 
 /// A row, and its bindings below it.
+#[tactic(auto, using(crate::proofs::Written::whole_typed))]
 fn push_row(out: &mut Vec<u8>, row: &Row) -> Result<(), AllocError>
-    ensures { OnOk result (out.new.items ≡ out.old.items ++ row_lines row.now) }
+    ensures text { OnOk result (out.new.items ≡ out.old.items ++ row_lines row.now) }
+    ensures typed { OnOk result (is_typed row.now ≡ true) }
 {
     push_row_line(out, row)?;
     push_bind_lines(out, row.depth, row.binds.as_slice())
@@ -61,7 +67,8 @@ fn push_row(out: &mut Vec<u8>, row: &Row) -> Result<(), AllocError>
 /// which [`Tree::spelled`] holds.
 pub fn write_tree(alloc: Global, tree: &Tree) -> Result<Vec<u8>, NoMemory>
     requires { list_all is_spelled tree.now.rows ≡ true }
-    ensures { IfOk result (λ text. text.items ≡ spelling tree.now.rows) }
+    ensures text { IfOk result (λ text. text.items ≡ spelling tree.now.rows) }
+    ensures typed { OnOk result (list_all is_typed tree.now.rows ≡ true) }
 {
     let mut out = Vec::new(alloc);
     let mut here = Some(tree.root());
