@@ -33,7 +33,9 @@ use Rattle.std.specs.Char.{is_ascii_digit}
 use Rattle.std.specs.List.{list_any}
 use Rattle.std.specs.Option.{option_eq}
 use Rattle.std.proofs.Common.{decimal, bytes_eq, map, option_and_then, encode_utf8}
-use Rattle.std.proofs.lemmas.Bool.{leb-true, leb-false}
+use Rattle.std.proofs.lemmas.Bool.{leb-true, leb-false, ltb-true, ltb-false}
+use Rattle.std.proofs.Common.{◌<◌, ◌≢◌, nat_lt}
+use Rattle.tx_tree_file.proofs.Fronts.{same-byte}
 use Rattle.std.proofs.lemmas.Bool.Decides.{nat_tests, Decides-eqb}
 use Rattle.std.proofs.lemmas.Str.{is_utf8-from_IsUtf8}
 use Rattle.tx_tree.proofs.Ids.{id_from_test}
@@ -618,16 +620,75 @@ preorder-same : (rows : List Row) → IsPreorder rows → IsPreorder (read_again
 preorder-same [] h = h
 preorder-same (row ∷ rows) h = let f = h.0 in (record { number = refl; depth = f.depth; screen = f.screen }, follow-same 1 2 row rows h.1)
 
-pub again-law : (tree : TreeValue) → IsTree tree → list_all is_typed tree.rows ≡ true → list_all is_spelled tree.rows ≡ true → length tree.rows ≤ 65536 → tree_of (spelling tree.rows) ≡ Ok (read_again 1 tree.rows)
-again-law tree whole typed spelled few =
+-- ---- a tree has no more rows than nodes were made
+
+abbrev InRange : List Row → ℕ → Type 0
+InRange rows m = (n : ℕ) → 0 < count_of n rows → (1 ≤ n) × (n ≤ m)
+
+counted-row : (n : ℕ) (rows : List Row) → 0 < count_of n rows → (front : List Row) × (row : Row) × (back : List Row) × (rows ≡ front ++ (row ∷ back)) × (row.node.0 ≡ n)
+counted-row n [] h = absurd (omega (arith, h))
+counted-row n (r ∷ rows) h = by (has_number n r) refl h (counted-row n rows)
+  where
+    by : (b : Bool) → has_number n r ≡ b → 0 < cond {A = ℕ} b 1 0 + count_of n rows
+        → (0 < count_of n rows → (front : List Row) × (row : Row) × (back : List Row) × (rows ≡ front ++ (row ∷ back)) × (row.node.0 ≡ n))
+        → (front : List Row) × (row : Row) × (back : List Row) × (r ∷ rows ≡ front ++ (row ∷ back)) × (row.node.0 ≡ n)
+    by true e g more = ([], r, rows, refl, same-byte r.node.0 n e)
+    by false e g more = let (front, row, back, is, at) = more (omega (arith, g)) in (r ∷ front, row, back, ap (λ (z : List Row). r ∷ z) is, at)
+
+without-row : (n : ℕ) (rows front : List Row) (row : Row) (back : List Row) → rows ≡ front ++ (row ∷ back) → count_of n rows ≡ cond {A = ℕ} (has_number n row) 1 0 + count_of n (front ++ back)
+without-row n rows front row back is =
+    let a = ap (count_of n) is ∙ count_of-append n front (row ∷ back) in
+    let b = count_of-append n front back in
+    omega (arith, a, b)
+
+bounded : (m : ℕ) (rows : List Row) → Once rows → InRange rows m → length rows ≤ m
+bounded zero [] once range = omega arith
+bounded zero (row ∷ rows) once range =
+    let own = found-row [] row rows once in
+    let here : 0 < count_of row.node.0 (row ∷ rows) = (let e = ap (λ (b : Bool). cond {A = ℕ} b 1 0 + count_of row.node.0 rows) ((Decides-eqb row.node.0 row.node.0).1 refl) in omega (arith, e)) in
+    let (least, most) = range row.node.0 here in
+    absurd (omega (arith, least, most))
+bounded (suc m) rows once range = by (nat_lt 0 (count_of (suc m) rows)) refl (λ front back. bounded m (front ++ back)) (bounded m rows)
+  where
+    by : (b : Bool) → nat_lt 0 (count_of (suc m) rows) ≡ b → ((front back : List Row) → Once (front ++ back) → InRange (front ++ back) m → length (front ++ back) ≤ m) → (Once rows → InRange rows m → length rows ≤ m) → length rows ≤ suc m
+    by false e less same =
+        let none = ltb-false 0 (count_of (suc m) rows) e in
+        let few = same once (λ n h.
+          let (least, most) = range n h in
+          let other : n ≢ suc m = λ here. (let f = ap (λ (k : ℕ). count_of k rows) here in absurd (omega (arith, f, none, h))) in
+          (least, omega (arith, most, other))) in
+        omega (arith, few)
+    by true e less same =
+        let (front, row, back, is, at) = counted-row (suc m) rows (ltb-true 0 (count_of (suc m) rows) e) in
+        let own : has_number (suc m) row ≡ true = (Decides-eqb row.node.0 (suc m)).1 at in
+        let few = less front back
+          (λ n. let a = once n in let b = without-row n rows front row back is in omega (arith, a, b))
+          (λ n h.
+            let b = without-row n rows front row back is in
+            let (least, most) = range n (omega (arith, b, h)) in
+            let other : n ≢ suc m = λ here.
+              (let one = once (suc m) in
+                let whole = without-row (suc m) rows front row back is ∙ ap (λ (x : Bool). cond {A = ℕ} x 1 0 + count_of (suc m) (front ++ back)) own in
+                let there = ap (λ (k : ℕ). count_of k (front ++ back)) here in
+                absurd (omega (arith, one, whole, there, h))) in
+            (least, omega (arith, most, other))) in
+        let all = ap length is ∙ length-append front (row ∷ back) in
+        let rest = length-append front back in
+        omega (arith, few, all, rest)
+
+pub again-law : (tree : TreeValue) → IsTree tree → list_all is_typed tree.rows ≡ true → list_all is_spelled tree.rows ≡ true → tree_of (spelling tree.rows) ≡ Ok (read_again 1 tree.rows)
+again-law tree whole typed spelled =
     let is = is-read 1 tree.rows typed spelled in
     let size = is.size in
+    let few = bounded tree.made tree.rows whole.once whole.in_range in
+    let made = whole.few in
     let preorder = preorder-same tree.rows whole.preorder in
-    ap tree_of (sym is.text) ∙ file-again (read_again 1 tree.rows) (record {
+    ap tree_of (sym is.text)
+    ∙ file-again (read_again 1 tree.rows) (record {
       preorder = preorder-some (read_again 1 tree.rows) preorder;
       typed = is.typed;
       spelled = is.spelled;
       fresh = is.fresh;
       ids = ids-same 1 [] [] tree.rows refl (ids-of tree.rows [] tree.rows refl whole.once whole.one_id);
-      few = omega (arith, size, few);
+      few = omega (arith, size, few, made);
     }) preorder

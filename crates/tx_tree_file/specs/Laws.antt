@@ -1,5 +1,5 @@
 -- Laws of tree files.
-use Rattle.std.specs.Prelude.{◌≡◌, ◌≤◌, ℕ, true, List, length, Ok}
+use Rattle.std.specs.Prelude.{◌≡◌, ℕ, true, List, Ok}
 use Rattle.std.specs.List.{list_all}
 use Rattle.tx_tree.specs.Spelled.{is_spelled}
 use Rattle.tx_tree.specs.TreeValue.{TreeValue}
@@ -17,5 +17,5 @@ OneText = (a b : List ℕ) (rows : List Row) → tree_of a ≡ Ok rows → tree_
 -- are as their types say.
 abbrev pub ReadAgain : Type 0
 ReadAgain =
-    (tree : TreeValue) → IsTree tree → list_all is_typed tree.rows ≡ true → list_all is_spelled tree.rows ≡ true → length tree.rows ≤ 65536
+    (tree : TreeValue) → IsTree tree → list_all is_typed tree.rows ≡ true → list_all is_spelled tree.rows ≡ true
     → tree_of (spelling tree.rows) ≡ Ok (read_again 1 tree.rows)
