@@ -173,7 +173,7 @@ inline-free : (inline : List ℕ) → Free inline → Free (inline_part inline)
 inline-free [] h = refl
 inline-free (b ∷ bytes) h = and-free (codes " {" ++ (b ∷ bytes)) (codes "}") h refl
 
-row-free : (row : Row) → HasParts row → Free (indent row.depth ++ row_text row)
+pub row-free : (row : Row) → HasParts row → Free (indent row.depth ++ row_text row)
 row-free row h =
     and-free (indent row.depth) (row_text row) (blanks-free (2 * row.depth)) (and-free (kind_name row.kind) _ (kind-free row.kind h.kind_typed) (and-free (id_part row.id) _ (id-free row.id h.id_typed)
     (and-free (class_parts row.classes.names) _ (classes-free row.classes.names h.classes_typed) (and-free (disabled_part row.disabled) _ (disabled-free row.disabled) (and-free (private_part row.private) _ (private-free row.kind row.private h.private_spelled)
@@ -226,14 +226,14 @@ priority-free : (b : Bool) → Free (priority_part b)
 priority-free true = refl
 priority-free false = refl
 
-bind-free : (depth : ℕ) (bind : Bind) → key_is_spelled bind.key ≡ true → bind_is_typed bind ≡ true → Free (indent (depth + 1) ++ bind_text bind)
+pub bind-free : (depth : ℕ) (bind : Bind) → key_is_spelled bind.key ≡ true → bind_is_typed bind ≡ true → Free (indent (depth + 1) ++ bind_text bind)
 bind-free depth bind h t =
     and-free (indent (depth + 1)) (bind_text bind) (blanks-free (2 * (depth + 1))) (and-free (priority_part bind.priority) _ (priority-free bind.priority)
     (and-free (key_name bind.key) _ (key-free bind.key h) (action-free bind.action (and-right (key_is_typed bind.key) _ t))))
 
 -- ---- a line is cut off at its line feed
 
-cut-again : (line rest : List ℕ) → Free line → pieces 10 (line ++ (10 ∷ rest)) ≡ line ∷ pieces 10 rest
+pub cut-again : (line rest : List ℕ) → Free line → pieces 10 (line ++ (10 ∷ rest)) ≡ line ∷ pieces 10 rest
 cut-again [] rest h = refl
 cut-again (b ∷ line) rest h =
     let other : (b == 10) ≡ false = by (b == 10) (and-left (no_line_feed b) _ h) in
@@ -251,7 +251,7 @@ no_binds last = ap (λ (z : List Bind). record last { binds = z }) (append-nil l
 more_binds : (bind : Bind) (binds : List Bind) (last : Row) → with_binds binds (with_bind bind last) ≡ with_binds (bind ∷ binds) last
 more_binds bind binds last = ap (λ (z : List Bind). record last { binds = z }) (append_assoc last.binds (bind ∷ []) binds)
 
-binds-again : (binds : List Bind) (rest : List ℕ) (done : ℕ) (before : List Row) (last : Row) → list_all (λ bind. key_is_spelled bind.key) binds ≡ true → list_all bind_is_typed binds ≡ true
+pub binds-again : (binds : List Bind) (rest : List ℕ) (done : ℕ) (before : List Row) (last : Row) → list_all (λ bind. key_is_spelled bind.key) binds ≡ true → list_all bind_is_typed binds ≡ true
     → rows_behind (pieces 10 (flat_map (bind_line last.depth) binds ++ rest)) done (record { before = before; last = last }) ≡ rows_behind (pieces 10 rest) (done + length binds) (record { before = before; last = with_binds binds last })
 binds-again [] rest done before last h t =
     ap₂ (λ (n : ℕ) (z : Row). rows_behind (pieces 10 rest) n (record { before = before; last = z })) (omega arith) (sym (no_binds last))
@@ -280,7 +280,7 @@ above-snoc d found (r ∷ rows) row = above-snoc d (cond (r.depth + 1 == d) (Som
 abbrev pub Held : List Row → ℕ → Type 0
 Held rows depth = (d : ℕ) → 1 ≤ d → d ≤ depth → is_held d rows ≡ true
 
-held-here : (rows : List Row) (last row : Row) → Held (rows ++ last ∷ []) last.depth → MayFollow last row → is_held row.depth (rows ++ last ∷ []) ≡ true
+pub held-here : (rows : List Row) (last row : Row) → Held (rows ++ last ∷ []) last.depth → MayFollow last row → is_held row.depth (rows ++ last ∷ []) ≡ true
 held-here rows last row h f = by (nat_le row.depth last.depth) refl
   where
     by : (b : Bool) → nat_le row.depth last.depth ≡ b → is_held row.depth (rows ++ last ∷ []) ≡ true
@@ -292,12 +292,12 @@ held-here rows last row h f = by (nat_le row.depth last.depth) refl
         ap (λ (o : Option Row). option_map_or (λ parent. holds_children parent.kind) o true) (above-snoc row.depth None rows last ∙ ap (λ (b : Bool). cond b (Some last) (last_above row.depth None rows)) ((Decides-eqb (last.depth + 1) row.depth).1 (sym next)))
         ∙ f.held next
 
-held-more : (rows : List Row) (row : Row) → Held rows row.depth → Held (rows ++ row ∷ []) row.depth
+pub held-more : (rows : List Row) (row : Row) → Held rows row.depth → Held (rows ++ row ∷ []) row.depth
 held-more rows row h d below few =
     let other : (row.depth + 1 == d) ≡ false = ne_eqb (row.depth + 1) d (λ same. absurd (omega (arith, same, few))) in
     ap (λ (o : Option Row). option_map_or (λ parent. holds_children parent.kind) o true) (above-snoc d None rows row ∙ ap (λ (b : Bool). cond b (Some row) (last_above d None rows)) other) ∙ h d below few
 
-held-next : (rows : List Row) (last row : Row) → Held (rows ++ last ∷ []) last.depth → MayFollow last row → Held (rows ++ last ∷ []) row.depth
+pub held-next : (rows : List Row) (last row : Row) → Held (rows ++ last ∷ []) last.depth → MayFollow last row → Held (rows ++ last ∷ []) row.depth
 held-next rows last row h f d below few = by (nat_le d last.depth) refl
   where
     by : (b : Bool) → nat_le d last.depth ≡ b → is_held d (rows ++ last ∷ []) ≡ true
@@ -308,7 +308,7 @@ held-next rows last row h f d below few = by (nat_le d last.depth) refl
         let here : row.depth ≡ d = omega (arith, more, step, few) in
         subst (λ (n : ℕ). is_held n (rows ++ last ∷ []) ≡ true) here (held-here rows last row h f)
 
-again-head : (n : ℕ) (row : Row) (rows : List Row) → row ∷ rows ≡ read_again n (row ∷ rows) → (row ≡ read_row n row) × (rows ≡ read_again (n + 1) rows)
+pub again-head : (n : ℕ) (row : Row) (rows : List Row) → row ∷ rows ≡ read_again n (row ∷ rows) → (row ≡ read_row n row) × (rows ≡ read_again (n + 1) rows)
 again-head n row rows h = (head (row ∷ rows) (read_again n (row ∷ rows)) h, tail (row ∷ rows) (read_again n (row ∷ rows)) h)
   where
     head_or : List Row → Row
@@ -326,10 +326,10 @@ again-head n row rows h = (head (row ∷ rows) (read_again n (row ∷ rows)) h, 
     tail xs ys e = ap tail_or e
 
 -- the row that is read is the row
-row-whole : (n : ℕ) (row : Row) → row ≡ read_row n row → with_binds row.binds (placed (new_of row) n row.depth) ≡ row
+pub row-whole : (n : ℕ) (row : Row) → row ≡ read_row n row → with_binds row.binds (placed (new_of row) n row.depth) ≡ row
 row-whole n row e = sym e
 
-with_new-again : (rows : List Row) (d : ℕ) (new : NewRow) → is_held d rows ≡ true → (length rows == 65536) ≡ false → is_taken new.id rows ≡ false
+pub with_new-again : (rows : List Row) (d : ℕ) (new : NewRow) → is_held d rows ≡ true → (length rows == 65536) ≡ false → is_taken new.id rows ≡ false
     → with_new rows d new ≡ Ok (record { before = rows; last = placed new (length rows + 1) d })
 with_new-again rows d new a b c = rw (a, b, c) refl
 
@@ -365,7 +365,7 @@ rows-again (row ∷ rows) done before last follow deep typed spelled fresh ids f
 
 -- ---- the first line
 
-first-again : (row : Row) → HasParts row → is_screen row.kind ≡ true → first_item (row_text row) true ≡ Ok (new_of row)
+pub first-again : (row : Row) → HasParts row → is_screen row.kind ≡ true → first_item (row_text row) true ≡ Ok (new_of row)
 first-again row h screen_is =
     let utf8 = is_utf8-from_IsUtf8 (row_text row) (row-utf8 row h) in
     let (count, past) = blanks-again 0 (row_text row) (row-begins row h.kind_spelled).0 in

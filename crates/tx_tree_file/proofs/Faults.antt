@@ -39,7 +39,7 @@ ok-err h = absurd cc
 pub err-same : {A F : Type 0} {x y : F} → ◌≡◌ {A = Result A F} (Err x) (Err y) → x ≡ y
 err-same h = cc
 
-last-snoc : (rows : List Row) (last : Row) → last_row (rows ++ last ∷ []) ≡ Some last
+pub last-snoc : (rows : List Row) (last : Row) → last_row (rows ++ last ∷ []) ≡ Some last
 last-snoc [] last = refl
 last-snoc (row ∷ []) last = refl
 last-snoc (row ∷ next ∷ rows) last = last-snoc (next ∷ rows) last
@@ -62,12 +62,12 @@ begun-of begun h =
 
 -- ---- a line that is nothing
 
-spelled-blanks : (d : ℕ) (line text : List ℕ) → BeginsOther text → line ≡ indent d ++ text → (blanks line ≡ 2 * d) × (past_blanks line ≡ text)
+pub spelled-blanks : (d : ℕ) (line text : List ℕ) → BeginsOther text → line ≡ indent d ++ text → (blanks line ≡ 2 * d) × (past_blanks line ≡ text)
 spelled-blanks d line text h e =
     let (count, past) = blanks-again (2 * d) text h in
     (ap blanks e ∙ count, ap past_blanks e ∙ past)
 
-some_rows : (begun : Begun) → (length (rows_so_far begun) == 0) ≡ false
+pub some_rows : (begun : Begun) → (length (rows_so_far begun) == 0) ≡ false
 some_rows begun = let size = length-append begun.before (begun.last ∷ []) in ne_eqb (length (rows_so_far begun)) 0 (λ same. absurd (omega (arith, size, same)))
 
 no_row-there : (begun : Begun) (line : List ℕ) (kind : TreeKind) → begun.last.depth ≤ 63 → may_stand begun.last.depth (is_bind_line line) (blanks line) ≡ true → is_too_deep line ≡ false
@@ -110,7 +110,7 @@ binding-err : (o : Option Bind) (kind : TreeKind) → binding o ≡ Err kind →
 binding-err None kind h = sym (err-same h)
 binding-err (Some bind) kind h = ok-err h
 
-widget-err : (depth : ℕ) (o : Option NewRow) (kind : TreeKind) → widget depth o ≡ Err kind → kind ≡ Expected
+pub widget-err : (depth : ℕ) (o : Option NewRow) (kind : TreeKind) → widget depth o ≡ Err kind → kind ≡ Expected
 widget-err depth None kind h = sym (err-same h)
 widget-err depth (Some new) kind h = by (is_screen new.kind) h
   where
@@ -118,7 +118,7 @@ widget-err depth (Some new) kind h = by (is_screen new.kind) h
     by true g = sym (err-same g)
     by false g = ok-err g
 
-bind_item-err : (text : List ℕ) (ended : Bool) (kind : TreeKind) → bind_item text ended ≡ Err kind → kind ≡ Expected
+pub bind_item-err : (text : List ℕ) (ended : Bool) (kind : TreeKind) → bind_item text ended ≡ Err kind → kind ≡ Expected
 bind_item-err text true kind h = binding-err (bind_of text) kind h
 bind_item-err text false kind h = sym (err-same h)
 
@@ -147,7 +147,7 @@ item-breaks begun line ended kind deep is = by (is_utf8 line) (may_stand begun.l
         row-err false g = sym (err-same g)
 
 -- a row that was read, as one that the line spells
-row_line-of : (begun : Begun) (line : List ℕ) (ended : Bool) (d : ℕ) (new : NewRow) → list_all no_line_feed line ≡ true → item_of begun.last.depth line ended ≡ Ok (Widget d new)
+pub row_line-of : (begun : Begun) (line : List ℕ) (ended : Bool) (d : ℕ) (new : NewRow) → list_all no_line_feed line ≡ true → item_of begun.last.depth line ended ≡ Ok (Widget d new)
     → IsRowLine (rows_so_far begun) line ended (placed new 0 d)
 row_line-of begun line ended d new whole is =
     let (end, item) = row_item-inv begun.last.depth line ended d new is in
@@ -264,7 +264,7 @@ first-nothing line none is = record {
   no_bind = λ bind h. none-some h.behind;
 }
 
-screen-err : (o : Option NewRow) (kind : TreeKind) → screen o ≡ Err kind → kind ≡ Expected
+pub screen-err : (o : Option NewRow) (kind : TreeKind) → screen o ≡ Err kind → kind ≡ Expected
 screen-err None kind h = sym (err-same h)
 screen-err (Some new) kind h = by (is_screen new.kind) h
   where

@@ -44,7 +44,7 @@ some_piece (byte ∷ bytes) = by (byte == 10) (pieces 10 bytes)
     by false [] = refl
     by false (piece ∷ rest) = refl
 
-more_lines : (line behind : List ℕ) (done : ℕ) (begun : Begun)
+pub more_lines : (line behind : List ℕ) (done : ℕ) (begun : Begun)
     → rows_behind (line ∷ pieces 10 behind) done begun ≡ or_fault (done + 1) (next_line begun line true) (rows_behind (pieces 10 behind) (done + 1))
 more_lines line behind done begun = rw (some_piece behind) refl
 

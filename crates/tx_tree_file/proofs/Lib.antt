@@ -14,3 +14,4 @@ pub mod AgainParts
 pub mod AgainLines
 pub mod Faults
 pub mod AgainFile
+pub mod OneFault

@@ -225,7 +225,7 @@ pub record IsNext (begun : Begun) (line : List ℕ) (next : Begun) : Type 0 wher
   pub lines : line_count (rows_so_far next) ≡ line_count (rows_so_far begun) + 1
   pub depth : next.last.depth ≤ 63
 
-bind_stands-inv : (depth count : ℕ) → not (may_stand depth true count) ≡ false → count ≡ 2 * (depth + 1)
+pub bind_stands-inv : (depth count : ℕ) → not (may_stand depth true count) ≡ false → count ≡ 2 * (depth + 1)
 bind_stands-inv depth count h = eqb-true count (2 * (depth + 1)) (not_true _ h)
 
 pub next-bind : (begun : Begun) (line : List ℕ) (bind : Bind) → Stands begun → begun.last.depth ≤ 63 → item_of begun.last.depth line true ≡ Ok (Binding bind)
@@ -292,7 +292,7 @@ pub record IsFirstItem (line : List ℕ) (new : NewRow) : Type 0 where
   pub row : row_of line ≡ Some new
   pub screen : is_screen new.kind ≡ true
 
-screen-inv : (o : Option NewRow) (new : NewRow) → screen o ≡ Ok new → (o ≡ Some new) × (is_screen new.kind ≡ true)
+pub screen-inv : (o : Option NewRow) (new : NewRow) → screen o ≡ Ok new → (o ≡ Some new) × (is_screen new.kind ≡ true)
 screen-inv None new h = err-ok h
 screen-inv (Some found) new h =
     let (is, same) = ended-inv (is_screen found.kind) (Ok found) Expected new h in

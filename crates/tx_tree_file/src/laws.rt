@@ -1,6 +1,6 @@
 //! What holds of tree files, as contracts of functions that do nothing.
 
-ghost use Rattle.tx_tree_file.specs.Laws.{OneText, ReadAgain};
+ghost use Rattle.tx_tree_file.specs.Laws.{OneText, OneFault, ReadAgain};
 
 /// No two texts are read as the same rows.
 pub fn one_text()
@@ -11,4 +11,9 @@ pub fn one_text()
 /// of their state.
 pub fn read_again()
     ensures { ReadAgain }
+{}
+
+/// A file has one first fault: the one that is read of it.
+pub fn one_fault()
+    ensures { OneFault }
 {}

@@ -1,0 +1,380 @@
+-- There is one first fault.
+use Rattle.std.proofs.Common.{◌≡◌, ℕ, zero, suc, ◌+◌, ◌-◌, ◌*◌, ◌/◌, ◌%◌, ◌<◌, ◌≤◌, ◌==◌, ◌&&◌, ◌||◌, Bool, true, false, cond, not, nat_le, List, [], ◌∷◌, ◌++◌, length, drop, replicate, flat_map, fold, sum_by, Option, Some, None, Result, Ok, Err, refl, ap, ap₂, sym, subst, subst₂, ◌∙◌, arith, append_assoc, append-nil, length-append, ◌≢◌, ◌⊎◌, inl, inr, ⊎_elim, codes, add-one}
+use Rattle.std.specs.List.{list_all}
+use Rattle.std.specs.Option.{option_map_or}
+use Rattle.std.specs.Str.{is_utf8}
+use Rattle.std.proofs.lemmas.Bool.{false≢true, eqb-true, ne_eqb}
+use Rattle.std.proofs.lemmas.Grind.{flat_map-append}
+use Rattle.tx_read.specs.Pieces.{pieces, onto}
+use Rattle.tx_tree.proofs.NameBytes.{and-left, and-right}
+use Rattle.tx_tree.specs.Kind.{is_screen, holds_children}
+use Rattle.tx_tree.specs.Mount.{is_taken}
+use Rattle.tx_tree.specs.Row.{placed}
+use Rattle.tx_tree.specs.Rows.{last_above}
+use Rattle.tx_tree.specs.Name.{is_name}
+use Rattle.tx_tree.specs.Spelled.{is_spelled, key_is_spelled, no_line_feed, byte_is_spelled, no_repeats, kind_is_spelled, private_is_spelled}
+use Rattle.tx_tree.specs.WellFormed.{MayFollow, MayAllFollow, IsFirst, IsPreorder}
+use Rattle.tx_tree.specs.TreeValue.{TreeValue}
+use Rattle.tx_tree.specs.declared.bind.Bind.{Bind}
+use Rattle.tx_tree.specs.declared.fault.TreeFault.{TreeFault}
+use Rattle.tx_tree.specs.declared.fault.TreeFault.TheVariants.{Grammar, NoNode, DuplicateId as DuplicateId', TooMany as TooMany', TooDeep as TooDeep', Root, Leaf as Leaf', NotSiblings, NoMemory}
+use Rattle.tx_tree.specs.declared.fault.TreeKind.{TreeKind}
+use Rattle.tx_tree.specs.declared.fault.TreeKind.TheVariants.{BadByte, BadIndent, TooDeep, Expected, Leaf, TooMany, DuplicateId}
+use Rattle.tx_tree.specs.declared.row.NewRow.{NewRow}
+use Rattle.tx_tree.specs.declared.row.Row.{Row}
+use Rattle.tx_tree_file.proofs.FoundLines.{IsRowText, row-found, IsBindText, bind-found, all-behind}
+use Rattle.tx_tree_file.proofs.FoundParts.{both}
+use Rattle.tx_tree_file.proofs.Fronts.{same-byte, some-same, none-some}
+use Rattle.tx_tree_file.proofs.Growing.{above_front, all-snoc}
+use Rattle.tx_tree_file.proofs.LastRows.{ok-same, err-ok, ifs, ended-inv, item-inv, is_bind, is_widget, IsItem, IsRowItem, row_item-inv, other_than, some_piece}
+use Rattle.tx_tree_file.proofs.Repeats.{not_true}
+use Rattle.tx_tree_file.specs.FirstFault.{ids_differ, is_held, line_count, IsPreorderOrNone, IsBegun, last_row, SpellsRow, SpellsBind, IsIndented, IsPlaced, IsRowLine, IsNothing, Breaks, is_line_end, is_ended, IsFirstFault, IsFaultOf}
+use Rattle.tx_tree_file.proofs.AgainLines.{encode-all, row-utf8, HasParts, has-parts, row-begins, blanks-again, row-again, row_line-again, bind_line-again, new_of, BeginsOther}
+use Rattle.tx_tree_file.proofs.LastRows.{stands-inv}
+use Rattle.tx_tree_file.proofs.Whole.{Stands, ends-preorder, ids-snoc, again-snoc, blanks_split, indented, with_new-inv, IsAllowed, IsNext, next-found, IsFirstItem, first-inv, first-stands, first-text, first-read, joined, joined-pieces, pieces-whole, or-inv, count-last}
+use Rattle.tx_tree_file.specs.Indent.{may_indent, is_too_deep, starts_bind, blanks, past_blanks, is_bind_line, may_stand}
+use Rattle.tx_tree_file.specs.Spelling.{indent, row_text, row_line, bind_text, bind_line, row_lines, spelling}
+use Rattle.tx_tree_file.specs.TreeFile.{is_typed, bind_is_typed, kind_is_typed, id_is_typed, kept, read_row, read_again, IsReading}
+use Rattle.tx_tree_file.specs.TreeReading.{Begun, LineFault, screen, first_item, with_first, first_line, binding, widget, bind_item, row_item, item_of, row_of, bind_of, with_bind, with_new, with_item, next_line, or_fault, is_empty, rows_behind, rows_so_far, rows_of_lines, tree_of, Tells, FaultIs, Reads, GivesRows}
+use Rattle.tx_tree_file.specs.declared.line.Item.{Item}
+use Rattle.tx_tree_file.specs.declared.line.Item.TheVariants.{Binding, Widget}
+
+
+use Rattle.std.specs.Char.{is_ascii_digit}
+use Rattle.std.specs.List.{list_any}
+use Rattle.std.specs.Option.{option_eq}
+use Rattle.std.proofs.Common.{nat_lt, decimal, bytes_eq, map, filter, option_and_then, encode_utf8}
+use Rattle.std.proofs.lemmas.Bool.{leb-true, leb-false, ltb-true}
+use Rattle.std.proofs.lemmas.Bool.Decides.{nat_tests, Decides-eqb}
+use Rattle.std.proofs.lemmas.Str.{is_utf8-from_IsUtf8}
+use Rattle.tx_tree.proofs.Ids.{id_from_test, test_from_id}
+use Rattle.tx_tree.proofs.RowLists.{count_of-append, row_at-skip}
+use Rattle.tx_tree.specs.Kind.{kind_name}
+use Rattle.tx_tree.specs.Name.{begins_name, continues_name}
+use Rattle.tx_tree.specs.Rows.{row_at, count_of, has_id}
+use Rattle.tx_tree.specs.Row.{has_number}
+use Rattle.tx_tree.specs.WellFormed.{IsTree, id_of}
+use Rattle.tx_tree.specs.declared.bind.Action.{Action}
+use Rattle.tx_tree.specs.declared.bind.Action.TheVariants.{FocusNext, FocusPrevious, ToggleDark, ToggleClass, Scroll}
+use Rattle.tx_tree.specs.declared.bind.Jump.TheVariants.{Up as JumpUp, Down as JumpDown, Home as JumpHome, End as JumpEnd, PageUp as JumpPageUp, PageDown as JumpPageDown}
+use Rattle.tx_tree.specs.declared.bind.Key.{Key}
+use Rattle.tx_tree.specs.declared.bind.Key.TheVariants.{Char, Enter, Escape, Tab, ShiftTab, Backspace, Delete, Up, Down, Left, Right, Home, End, PageUp, PageDown, Function, Ctrl}
+use Rattle.tx_tree.specs.declared.kind.Kind.{Kind}
+use Rattle.tx_tree.specs.declared.kind.Kind.TheVariants.{Screen, Container, Vertical, Horizontal, Grid, VerticalScroll, Static, Label, Button, Checkbox, Input, OptionList, ProgressBar, Header, Footer, Handed}
+use Rattle.tx_tree.specs.declared.kind.Private.{Private}
+use Rattle.tx_tree.specs.declared.kind.Private.TheVariants.{Plain, Cursor, On, Chosen, Bar}
+use Rattle.tx_tree_file.proofs.AgainParts.{decimal-digits, not_inv}
+use Rattle.tx_tree_file.proofs.Faults.{ok-err, preorder-some}
+use Rattle.tx_tree_file.proofs.LastRows.{bind_line_read, row_line_read, one_bind_more}
+use Rattle.tx_tree_file.specs.Sections.{with_binds}
+use Rattle.tx_tree_file.specs.Spelling.{id_part, class_part, class_parts, disabled_part, private_part, escaped, text_part, inline_part, key_name, action_name, priority_part}
+use Rattle.tx_tree_file.specs.TreeFile.{action_is_typed, key_is_typed}
+use Rattle.tx_tree_file.proofs.LastRows.{is_bind, is_widget}
+use Rattle.tx_tree_file.proofs.AgainFile.{Held, row-free, bind-free, cut-again, binds-again, row-whole, again-head, held-here, held-next, held-more, with_new-again, first-again}
+use Rattle.tx_tree_file.proofs.Faults.{spelled-blanks, last-snoc, some_rows, row_line-of, bind_item-err, widget-err, screen-err}
+use Rattle.tx_tree_file.proofs.LastRows.{more_lines}
+use Rattle.tx_tree_file.proofs.Whole.{first-cut, screen-inv, bind_stands-inv}
+
+-- a line at the end
+cut-last : (line : List ℕ) → list_all no_line_feed line ≡ true → pieces 10 line ≡ line ∷ []
+cut-last [] h = refl
+cut-last (b ∷ line) h =
+    let other : (b == 10) ≡ false = not_inv (b == 10) (and-left (no_line_feed b) _ h) in
+    ap (λ (x : Bool). cond x ([] ∷ pieces 10 line) (onto b (pieces 10 line))) other ∙ ap (onto b) (cut-last line (and-right (no_line_feed b) _ h))
+
+-- the lines of these rows are read, whatever stands behind them
+record Reached (tail : List ℕ) (done : ℕ) (begun : Begun) (rows : List Row) : Type 0 where
+  pub next : Begun
+  pub is : rows_so_far next ≡ rows_so_far begun ++ rows
+  pub deep : next.last.depth ≤ 63
+  pub read : rows_behind (pieces 10 (spelling rows ++ tail)) done begun ≡ rows_behind (pieces 10 tail) (done + line_count rows) next
+
+count-cons : (row : Row) (rows : List Row) → line_count (row ∷ rows) ≡ length row.binds + 1 + line_count rows
+count-cons row rows = by (length row.binds + 1) 0 rows
+  where
+    add : (n m : ℕ) (rows : List Row) → fold (λ a x. a + (length x.binds + 1)) (n + m) rows ≡ n + fold (λ a x. a + (length x.binds + 1)) m rows
+    add n m [] = refl
+    add n m (r ∷ rows) = ap (λ (k : ℕ). fold (λ a x. a + (length x.binds + 1)) k rows) (omega arith) ∙ add n (m + (length r.binds + 1)) rows
+    by : (n m : ℕ) (rows : List Row) → fold (λ a x. a + (length x.binds + 1)) (m + n) rows ≡ n + fold (λ a x. a + (length x.binds + 1)) m rows
+    by n m rows = ap (λ (k : ℕ). fold (λ a x. a + (length x.binds + 1)) k rows) (omega arith) ∙ add n m rows
+
+rows-reached : (rows : List Row) (tail : List ℕ) (done : ℕ) (before : List Row) (last : Row) → MayAllFollow last rows → last.depth ≤ 63 → list_all is_typed rows ≡ true → list_all is_spelled rows ≡ true
+    → rows ≡ read_again (length before + 2) rows → ids_differ (before ++ last ∷ []) rows ≡ true → length before + 1 + length rows ≤ 65536 → Held (before ++ last ∷ []) last.depth
+    → Reached tail done (record { before = before; last = last }) rows
+rows-reached [] tail done before last follow deep typed spelled fresh ids few held = record {
+  next = record { before = before; last = last };
+  is = sym (append-nil (before ++ last ∷ []));
+  deep = deep;
+  read = ap (λ (n : ℕ). rows_behind (pieces 10 tail) n (record { before = before; last = last })) (omega arith);
+}
+rows-reached (row ∷ rows) tail done before last follow deep typed spelled fresh ids few held =
+    let so_far = before ++ last ∷ [] in
+    let parts = has-parts row (and-left _ _ typed) (and-left _ _ spelled) in
+    let f = follow.0 in
+    let line = indent row.depth ++ row_text row in
+    let more = flat_map (bind_line row.depth) row.binds ++ (spelling rows ++ tail) in
+    let size : length so_far ≡ length before + 1 = length-append before (last ∷ []) in
+    let (same, rest) = again-head (length before + 2) row rows fresh in
+    let number : length before + 2 ≡ length so_far + 1 = omega (arith, size) in
+    let text : spelling (row ∷ rows) ++ tail ≡ line ++ (10 ∷ more) =
+      append_assoc (row_lines row) (spelling rows) tail
+      ∙ append_assoc (row_line row) (flat_map (bind_line row.depth) row.binds) (spelling rows ++ tail)
+      ∙ ap (λ (z : List ℕ). z ++ more) (sym (append_assoc (indent row.depth) (row_text row) (codes "\n")))
+      ∙ append_assoc line (codes "\n") more in
+    let below = f.below_first in
+    let step = f.step in
+    let shallow = f.shallow in
+    let count = count-cons row rows in
+    let there = rows-reached rows tail (done + 1 + length row.binds) so_far row follow.1 shallow (and-right (is_typed row) _ typed) (and-right (is_spelled row) _ spelled)
+        (rest ∙ ap (λ (n : ℕ). read_again n rows) (omega (arith, size))) (and-right (not (is_taken row.id so_far)) _ ids) (omega (arith, size, few)) (held-more so_far row (held-next before last row held f)) in
+    record {
+      next = there.next;
+      is = there.is ∙ append_assoc so_far (row ∷ []) rows;
+      deep = there.deep;
+      read = ap (λ (z : List ℕ). rows_behind (pieces 10 z) done (record { before = before; last = last })) text
+        ∙ row_line_read (line ++ (10 ∷ more)) line more done row.depth before last (new_of row) (cut-again line more (row-free row parts)) (row_line-again last.depth row.depth row parts f.no_screen below shallow step)
+        ∙ ap (λ (r : Result Begun TreeKind). or_fault (done + 1) r (rows_behind (pieces 10 more) (done + 1))) (with_new-again so_far row.depth (new_of row) (held-here before last row held f)
+            (ne_eqb (length so_far) 65536 (λ full. absurd (omega (arith, full, size, few)))) (not_inv (is_taken row.id so_far) (and-left _ _ ids)))
+        ∙ binds-again row.binds (spelling rows ++ tail) (done + 1) so_far (placed (new_of row) (length so_far + 1) row.depth) parts.binds_spelled parts.binds_typed
+        ∙ ap (λ (z : Row). rows_behind (pieces 10 (spelling rows ++ tail)) (done + 1 + length row.binds) (record { before = so_far; last = z })) (row-whole (length so_far + 1) row (same ∙ ap (λ (n : ℕ). read_row n row) number))
+        ∙ there.read
+        ∙ ap (λ (n : ℕ). rows_behind (pieces 10 tail) n there.next) (omega (arith, count));
+    }
+
+-- all rows of a file's beginning
+record IsReached (tail : List ℕ) (rows : List Row) : Type 0 where
+  pub next : Begun
+  pub is : rows_so_far next ≡ rows
+  pub deep : next.last.depth ≤ 63
+  pub read : tree_of (spelling rows ++ tail) ≡ rows_behind (pieces 10 tail) (line_count rows) next
+
+file-reached : (rows : List Row) (tail : List ℕ) → IsBegun rows → IsPreorder rows → IsReached tail rows
+file-reached [] tail h p = absurd p
+file-reached (row ∷ rows) tail h p =
+    let parts = has-parts row (and-left _ _ h.typed) (and-left _ _ h.spelled) in
+    let first = p.0 in
+    let more = flat_map (bind_line row.depth) row.binds ++ (spelling rows ++ tail) in
+    let flat : indent row.depth ≡ [] = ap indent first.depth in
+    let text : spelling (row ∷ rows) ++ tail ≡ row_text row ++ (10 ∷ more) =
+      append_assoc (row_lines row) (spelling rows) tail
+      ∙ append_assoc (row_line row) (flat_map (bind_line row.depth) row.binds) (spelling rows ++ tail)
+      ∙ ap (λ (z : List ℕ). (z ++ (row_text row ++ codes "\n")) ++ more) flat
+      ∙ append_assoc (row_text row) (codes "\n") more in
+    let free : list_all no_line_feed (row_text row) ≡ true = ap (λ (z : List ℕ). list_all no_line_feed (z ++ row_text row)) (sym flat) ∙ row-free row parts in
+    let (same, rest) = again-head 1 row rows h.fresh in
+    let few = h.few in
+    let count = count-cons row rows in
+    let there = rows-reached rows tail (1 + length row.binds) [] row p.1 (let d = first.depth in omega (arith, d)) (and-right (is_typed row) _ h.typed) (and-right (is_spelled row) _ h.spelled) rest
+        (and-right (not (is_taken row.id [])) _ h.ids) (omega (arith, few)) (λ d below few. absurd (let flat2 = first.depth in omega (arith, below, few, flat2))) in
+    record {
+      next = there.next;
+      is = there.is;
+      deep = there.deep;
+      read = ap tree_of text
+        ∙ sym (first-read (row_text row ++ (10 ∷ more)) (row_text row) more (new_of row) (cut-again (row_text row) more free) (first-again row parts first.screen))
+        ∙ ap (λ (d : ℕ). rows_behind (pieces 10 more) 1 (record { before = []; last = placed (new_of row) 1 d })) (sym first.depth)
+        ∙ binds-again row.binds (spelling rows ++ tail) 1 [] (placed (new_of row) 1 row.depth) parts.binds_spelled parts.binds_typed
+        ∙ ap (λ (z : Row). rows_behind (pieces 10 (spelling rows ++ tail)) (1 + length row.binds) (record { before = []; last = z })) (row-whole 1 row same)
+        ∙ there.read
+        ∙ ap (λ (n : ℕ). rows_behind (pieces 10 tail) n there.next) (omega (arith, count));
+    }
+
+-- a binding's line
+record IsBindLine (begun : Begun) (line : List ℕ) (bind : Bind) : Type 0 where
+  pub typed : bind_is_typed bind ≡ true
+  pub spelled : key_is_spelled bind.key ≡ true
+  pub text : line ≡ indent (begun.last.depth + 1) ++ bind_text bind
+
+next-bind-text : (begun : Begun) (line : List ℕ) (bind : Bind) → item_of begun.last.depth line true ≡ Ok (Binding bind) → IsBindLine begun line bind
+next-bind-text begun line bind is =
+    let item = (item-inv begun.last.depth line true (Binding bind) is).1 in
+    by (is_bind_line line) item.stands item.is
+  where
+    by : (b : Bool) → not (may_stand begun.last.depth b (blanks line)) ≡ false → cond b (bind_item (past_blanks line) true) (row_item (blanks line) (past_blanks line) true) ≡ Ok (Binding bind) → IsBindLine begun line bind
+    by true stands e =
+        let (found, some, same) = is_bind (bind_of (past_blanks line)) (Binding bind) e in
+        let that : found ≡ bind = cc in
+        let text = bind-found (past_blanks line) bind (some ∙ ap Some that) in
+        record {
+          typed = text.typed;
+          spelled = text.spelled;
+          text = indented line (begun.last.depth + 1) (bind_stands-inv begun.last.depth (blanks line) stands) ∙ ap (λ (z : List ℕ). indent (begun.last.depth + 1) ++ z) text.text;
+        }
+    by false stands e =
+        let (few, g) = ifs (blanks line == 128) _ TooDeep (Binding bind) e in
+        let (found, row, other, same) = is_widget (blanks line / 2) (row_of (past_blanks line)) (Binding bind) g in
+        absurd cc
+
+-- ---- the rule that is broken is the one that is told
+
+indent-inv : (begun : Begun) (rows : List Row) (line : List ℕ) → rows_so_far begun ≡ rows → (b : Bool) → may_indent (last_row rows) line ≡ b → may_stand begun.last.depth (is_bind_line line) (blanks line) ≡ b
+indent-inv begun rows line is b e = ap (λ (o : Option Row). may_indent o line) (sym (ap last_row (sym is) ∙ last-snoc begun.before begun.last)) ∙ e
+
+-- a row's line, where its indent may stand there
+there-again : (begun : Begun) (rows : List Row) (line : List ℕ) (row : Row) → rows_so_far begun ≡ rows → begun.last.depth ≤ 63 → IsPlaced rows line → SpellsRow rows line row
+    → item_of begun.last.depth line true ≡ Ok (Widget row.depth (new_of row))
+there-again begun rows line row is deep placed_ok h =
+    let parts = has-parts row h.typed h.spelled in
+    let (begins, no_bind) = row-begins row parts.kind_spelled in
+    let (count, past) = spelled-blanks row.depth line (row_text row) begins h.text in
+    let is_row : is_bind_line line ≡ false = ap starts_bind past ∙ no_bind in
+    let stands = indent-inv begun rows line is true placed_ok.indented.indent in
+    let may : may_stand begun.last.depth false (blanks line) ≡ true = ap (λ (b : Bool). may_stand begun.last.depth b (blanks line)) (sym is_row) ∙ stands in
+    let (even, least, most) = stands-inv begun.last.depth (blanks line) (ap not may) in
+    let few : (blanks line == 128) ≡ false = ap (λ (b : Bool). cond b false (blanks line == 128)) (sym is_row) ∙ placed_ok.shallow in
+    let less = other_than (blanks line) 128 few in
+    let some : is_screen row.kind ≡ false = h.screen ∙ ap (λ (z : List Row). length z == 0) (sym is) ∙ some_rows begun in
+    ap (λ (z : List ℕ). item_of begun.last.depth z true) h.text
+    ∙ row_line-again begun.last.depth row.depth row parts some (omega (arith, count, least)) (omega (arith, count, most, less, deep)) (omega (arith, count, most))
+
+-- a line that may stand there, by what it is
+placed-item : (begun : Begun) (rows : List Row) (line : List ℕ) (ended : Bool) → rows_so_far begun ≡ rows → IsPlaced rows line
+    → item_of begun.last.depth line ended ≡ cond (is_bind_line line) (bind_item (past_blanks line) ended) (cond ended (widget (blanks line / 2) (row_of (past_blanks line))) (Err Expected))
+placed-item begun rows line ended is h =
+    let stands = indent-inv begun rows line is true h.indented.indent in
+    ap (λ (b : Bool). cond (not b) (Err BadByte) (cond (not (may_stand begun.last.depth (is_bind_line line) (blanks line))) (Err BadIndent) (cond (is_bind_line line) (bind_item (past_blanks line) ended) (row_item (blanks line) (past_blanks line) ended)))) h.indented.utf8
+    ∙ ap (λ (b : Bool). cond (not b) (Err BadIndent) (cond (is_bind_line line) (bind_item (past_blanks line) ended) (row_item (blanks line) (past_blanks line) ended))) stands
+    ∙ by (is_bind_line line) h.shallow
+  where
+    rest : Result Item TreeKind
+    rest = cond ended (widget (blanks line / 2) (row_of (past_blanks line))) (Err Expected)
+    by : (b : Bool) → cond b false (blanks line == 128) ≡ false
+        → cond b (bind_item (past_blanks line) ended) (cond (blanks line == 128) (Err TooDeep) rest) ≡ cond b (bind_item (past_blanks line) ended) rest
+    by true e = refl
+    by false e = ap (λ (x : Bool). cond x (Err TooDeep) rest) e
+
+unended-again : (b : Bool) (text : List ℕ) → ◌≡◌ {A = Result Item TreeKind} (cond b (bind_item text false) (Err Expected)) (Err Expected)
+unended-again true text = refl
+unended-again false text = refl
+
+-- a line that is nothing
+nothing-again : (begun : Begun) (rows : List Row) (line : List ℕ) → rows_so_far begun ≡ rows → begun.last.depth ≤ 63 → list_all no_line_feed line ≡ true → IsPlaced rows line → IsNothing rows line
+    → item_of begun.last.depth line true ≡ Err Expected
+nothing-again begun rows line is deep whole h none = by (item_of begun.last.depth line true) refl (placed-item begun rows line true is h)
+  where
+    by : (r : Result Item TreeKind) → item_of begun.last.depth line true ≡ r → item_of begun.last.depth line true ≡ cond (is_bind_line line) (bind_item (past_blanks line) true) (widget (blanks line / 2) (row_of (past_blanks line)))
+        → item_of begun.last.depth line true ≡ Err Expected
+    by (Ok (Widget d new)) e g = absurd (none.no_row (placed new 0 d) (subst (λ (z : List Row). SpellsRow z line (placed new 0 d)) is (row_line-of begun line true d new whole e).spells))
+    by (Ok (Binding bind)) e g =
+        let next = next-bind-text begun line bind e in
+        absurd (none.no_bind bind (record { typed = next.typed; spelled = next.spelled; last = begun.last; behind = ap last_row (sym is) ∙ last-snoc begun.before begun.last; text = next.text }))
+    by (Err kind) e g = e ∙ ap Err (kind-is (is_bind_line line) (sym e ∙ g))
+      where
+        kind-is : (b : Bool) → Err kind ≡ cond b (bind_item (past_blanks line) true) (widget (blanks line / 2) (row_of (past_blanks line))) → kind ≡ Expected
+        kind-is true k = bind_item-err (past_blanks line) true kind (sym k)
+        kind-is false k = widget-err (blanks line / 2) (row_of (past_blanks line)) kind (sym k)
+
+new-again : (rows : List Row) (d : ℕ) (new : NewRow) (kind : TreeKind)
+    → ((is_held d rows ≡ false) × (kind ≡ Leaf)) ⊎ (((is_held d rows ≡ true) × (length rows ≡ 65536) × (kind ≡ TooMany)) ⊎ ((is_held d rows ≡ true) × (length rows ≢ 65536) × (is_taken new.id rows ≡ true) × (kind ≡ DuplicateId)))
+    → with_new rows d new ≡ Err kind
+new-again rows d new kind (inl h) = rw (h.0, h.1) refl
+new-again rows d new kind (inr (inl h)) = let full : (length rows == 65536) ≡ true = (Decides-eqb (length rows) 65536).1 h.1 in rw (h.0, full, h.2) refl
+new-again rows d new kind (inr (inr h)) = let few : (length rows == 65536) ≡ false = ne_eqb (length rows) 65536 h.1 in rw (h.0, few, h.2, h.3) refl
+
+row-again-fault : (begun : Begun) (rows : List Row) (line : List ℕ) (ended : Bool) (row : Row) (kind : TreeKind) → rows_so_far begun ≡ rows → begun.last.depth ≤ 63 → IsRowLine rows line ended row
+    → with_new rows row.depth (new_of row) ≡ Err kind → next_line begun line ended ≡ Err kind
+row-again-fault begun rows line ended row kind is deep h g =
+    ap (λ (b : Bool). next_line begun line b) h.whole
+    ∙ ap (with_item begun) (there-again begun rows line row is deep h.placed h.spells)
+    ∙ ap (λ (z : List Row). with_new z row.depth (new_of row)) is ∙ g
+
+breaks-again : (begun : Begun) (rows : List Row) (line : List ℕ) (ended : Bool) (kind : TreeKind) → rows_so_far begun ≡ rows → begun.last.depth ≤ 63 → list_all no_line_feed line ≡ true → Breaks rows line ended kind
+    → next_line begun line ended ≡ Err kind
+breaks-again begun rows line ended BadByte is deep whole h = ap (with_item begun) (ap (λ (b : Bool). cond (not b) (Err BadByte) (cond (not (may_stand begun.last.depth (is_bind_line line) (blanks line))) (Err BadIndent) (cond (is_bind_line line) (bind_item (past_blanks line) ended) (row_item (blanks line) (past_blanks line) ended)))) h)
+breaks-again begun rows line ended BadIndent is deep whole h =
+    ap (with_item begun) (
+      ap (λ (b : Bool). cond (not b) (Err BadByte) (cond (not (may_stand begun.last.depth (is_bind_line line) (blanks line))) (Err BadIndent) (cond (is_bind_line line) (bind_item (past_blanks line) ended) (row_item (blanks line) (past_blanks line) ended)))) h.0
+      ∙ ap (λ (b : Bool). cond (not b) (Err BadIndent) (cond (is_bind_line line) (bind_item (past_blanks line) ended) (row_item (blanks line) (past_blanks line) ended))) (indent-inv begun rows line is false h.1))
+breaks-again begun rows line ended TooDeep is deep whole h =
+    ap (with_item begun) (
+      ap (λ (b : Bool). cond (not b) (Err BadByte) (cond (not (may_stand begun.last.depth (is_bind_line line) (blanks line))) (Err BadIndent) (cond (is_bind_line line) (bind_item (past_blanks line) ended) (row_item (blanks line) (past_blanks line) ended)))) h.0.utf8
+      ∙ ap (λ (b : Bool). cond (not b) (Err BadIndent) (cond (is_bind_line line) (bind_item (past_blanks line) ended) (row_item (blanks line) (past_blanks line) ended))) (indent-inv begun rows line is true h.0.indent)
+      ∙ by (is_bind_line line) (blanks line == 128) h.1)
+  where
+    by : (b f : Bool) → cond b false f ≡ true → cond b (bind_item (past_blanks line) ended) (cond f (Err TooDeep) (cond ended (widget (blanks line / 2) (row_of (past_blanks line))) (Err Expected))) ≡ Err TooDeep
+    by true f g = absurd (false≢true g)
+    by false true g = refl
+    by false false g = absurd (false≢true g)
+breaks-again begun rows line ended Expected is deep whole (h, inl bare) =
+    ap (λ (b : Bool). next_line begun line b) bare
+    ∙ ap (with_item begun) (placed-item begun rows line false is h ∙ unended-again (is_bind_line line) (past_blanks line))
+breaks-again begun rows line true Expected is deep whole (h, inr none) = ap (with_item begun) (nothing-again begun rows line is deep whole h none)
+breaks-again begun rows line false Expected is deep whole (h, inr none) = ap (with_item begun) (placed-item begun rows line false is h ∙ unended-again (is_bind_line line) (past_blanks line))
+breaks-again begun rows line ended Leaf is deep whole (row, h, held) = row-again-fault begun rows line ended row Leaf is deep h (new-again rows row.depth (new_of row) Leaf (inl (held, refl)))
+breaks-again begun rows line ended TooMany is deep whole (row, h, held, full) = row-again-fault begun rows line ended row TooMany is deep h (new-again rows row.depth (new_of row) TooMany (inr (inl (held, full, refl))))
+breaks-again begun rows line ended DuplicateId is deep whole (row, h, held, few, taken) = row-again-fault begun rows line ended row DuplicateId is deep h (new-again rows row.depth (new_of row) DuplicateId (inr (inr (held, few, taken, refl))))
+
+-- ---- the first line
+
+flat_line : (line : List ℕ) (b : Bool) → (blanks line == 0) ≡ true → cond b false (blanks line == 128) ≡ true → ⊥
+flat_line line true e h = false≢true h
+flat_line line false e h = false≢true (sym (ap (λ (n : ℕ). n == 128) (same-byte (blanks line) 0 e)) ∙ h)
+
+spells-screen : (line : List ℕ) (new : NewRow) → list_all no_line_feed line ≡ true → row_of line ≡ Some new → is_screen new.kind ≡ true → SpellsRow [] line (placed new 0 0)
+spells-screen line new whole row is =
+    let text = row-found line new row in
+    record { typed = text.typed; spelled = text.spelled whole; text = text.text; alone = text.alone; screen = is }
+
+first-breaks-again : (line : List ℕ) (ended : Bool) (kind : TreeKind) → list_all no_line_feed line ≡ true → Breaks [] line ended kind → first_item line ended ≡ Err kind
+first-breaks-again line ended BadByte whole h = ap (λ (b : Bool). cond (not b) (Err BadByte) (cond (not (blanks line == 0)) (Err BadIndent) (cond ended (screen (row_of line)) (Err Expected)))) h
+first-breaks-again line ended BadIndent whole h =
+    ap (λ (b : Bool). cond (not b) (Err BadByte) (cond (not (blanks line == 0)) (Err BadIndent) (cond ended (screen (row_of line)) (Err Expected)))) h.0
+    ∙ ap (λ (b : Bool). cond (not b) (Err BadIndent) (cond ended (screen (row_of line)) (Err Expected))) h.1
+first-breaks-again line ended TooDeep whole h = absurd (flat_line line (is_bind_line line) h.0.indent h.1)
+first-breaks-again line ended Expected whole (h, why) =
+    ap (λ (b : Bool). cond (not b) (Err BadByte) (cond (not (blanks line == 0)) (Err BadIndent) (cond ended (screen (row_of line)) (Err Expected)))) h.indented.utf8
+    ∙ ap (λ (b : Bool). cond (not b) (Err BadIndent) (cond ended (screen (row_of line)) (Err Expected))) h.indented.indent
+    ∙ by ended why
+  where
+    at : (r : Result NewRow TreeKind) → screen (row_of line) ≡ r → IsNothing [] line → screen (row_of line) ≡ Err Expected
+    at (Err kind) e none = e ∙ ap Err (screen-err (row_of line) kind e)
+    at (Ok new) e none = let (row, is) = screen-inv (row_of line) new e in absurd (none.no_row (placed new 0 0) (spells-screen line new whole row is))
+    by : (b : Bool) → (b ≡ false) ⊎ IsNothing [] line → cond b (screen (row_of line)) (Err Expected) ≡ Err Expected
+    by false w = refl
+    by true (inl w) = absurd (false≢true (sym w))
+    by true (inr none) = at (screen (row_of line)) refl none
+first-breaks-again line ended Leaf whole (row, h, held) = absurd (false≢true (sym held))
+first-breaks-again line ended TooMany whole (row, h, held, full) = absurd (omega (arith, full))
+first-breaks-again line ended DuplicateId whole (row, h, held, few, taken) = absurd (by row.id taken)
+  where
+    by : (id : Option (List ℕ)) → is_taken id [] ≡ true → ⊥
+    by None e = false≢true e
+    by (Some name) e = false≢true e
+
+-- ---- the whole file
+
+filled_line : (line : List ℕ) → line ++ [] ≢ [] → is_empty line ≡ false
+filled_line [] h = absurd (h refl)
+filled_line (b ∷ line) h = refl
+
+pub fault-once : (bytes : List ℕ) (number : ℕ) (kind : TreeKind) → IsFirstFault bytes number kind → tree_of bytes ≡ Err (record { line = number; kind = kind })
+fault-once bytes number kind h =
+    ap tree_of h.place ∙ by h.rows h.after h.begun h.ends h.more h.broken ∙ ap (λ (n : ℕ). Err (record { line = n; kind = kind })) (sym h.counted)
+  where
+    line : List ℕ
+    line = h.line
+    by : (rows : List Row) (after : List ℕ) → IsBegun rows → is_line_end after ≡ true → (rows ≡ []) ⊎ (line ++ after ≢ []) → Breaks rows line (is_ended after) kind
+        → tree_of (spelling rows ++ (line ++ after)) ≡ Err (record { line = line_count rows + 1; kind = kind })
+    by [] [] begun ends more broken =
+        ap rows_of_lines (ap (pieces 10) (append-nil line) ∙ cut-last line h.whole)
+        ∙ ap (λ (r : Result NewRow TreeKind). or_fault 1 (with_first r) (rows_behind [] 1)) (first-breaks-again line false kind h.whole broken)
+    by [] (b ∷ after) begun ends more broken =
+        let feed = same-byte b 10 ends in
+        ap (λ (x : ℕ). tree_of (line ++ (x ∷ after))) feed
+        ∙ first-cut (line ++ (10 ∷ after)) line after (cut-again line after h.whole)
+        ∙ ap (λ (r : Result NewRow TreeKind). or_fault 1 (with_first r) (rows_behind (pieces 10 after) 1)) (first-breaks-again line true kind h.whole broken)
+    by (row ∷ rows) [] begun ends (inl none) broken = absurd cc
+    by (row ∷ rows) [] begun ends (inr some) broken =
+        let there = file-reached (row ∷ rows) (line ++ []) begun begun.preorder in
+        there.read
+        ∙ ap (λ (ps : List (List ℕ)). rows_behind ps (line_count (row ∷ rows)) there.next) (ap (pieces 10) (append-nil line) ∙ cut-last line h.whole)
+        ∙ ap (λ (b : Bool). cond b (Ok (rows_so_far there.next)) (or_fault (line_count (row ∷ rows) + 1) (next_line there.next line false) (rows_behind [] (line_count (row ∷ rows) + 1)))) (filled_line line some)
+        ∙ ap (λ (r : Result Begun TreeKind). or_fault (line_count (row ∷ rows) + 1) r (rows_behind [] (line_count (row ∷ rows) + 1))) (breaks-again there.next (row ∷ rows) line false kind there.is there.deep h.whole broken)
+    by (row ∷ rows) (b ∷ after) begun ends more broken =
+        let there = file-reached (row ∷ rows) (line ++ (b ∷ after)) begun begun.preorder in
+        let feed = same-byte b 10 ends in
+        there.read
+        ∙ ap (λ (x : ℕ). rows_behind (pieces 10 (line ++ (x ∷ after))) (line_count (row ∷ rows)) there.next) feed
+        ∙ ap (λ (ps : List (List ℕ)). rows_behind ps (line_count (row ∷ rows)) there.next) (cut-again line after h.whole)
+        ∙ more_lines line after (line_count (row ∷ rows)) there.next
+        ∙ ap (λ (r : Result Begun TreeKind). or_fault (line_count (row ∷ rows) + 1) r (rows_behind (pieces 10 after) (line_count (row ∷ rows) + 1))) (breaks-again there.next (row ∷ rows) line true kind there.is there.deep h.whole broken)
