@@ -1,5 +1,5 @@
 -- What is spelled is read again, the whole file.
-use Rattle.std.proofs.Common.{◌≡◌, ℕ, zero, suc, ◌+◌, ◌*◌, ◌≤◌, ◌==◌, ◌&&◌, ◌||◌, Bool, true, false, cond, not, nat_le, List, [], ◌∷◌, ◌++◌, length, replicate, flat_map, Option, Some, None, Result, Ok, Err, refl, ap, ap₂, sym, subst, ◌∙◌, arith, append_assoc, append-nil, length-append, codes}
+use Rattle.std.proofs.Common.{fold, ◌≡◌, ℕ, zero, suc, ◌+◌, ◌*◌, ◌≤◌, ◌==◌, ◌&&◌, ◌||◌, Bool, true, false, cond, not, nat_le, List, [], ◌∷◌, ◌++◌, length, replicate, flat_map, Option, Some, None, Result, Ok, Err, refl, ap, ap₂, sym, subst, ◌∙◌, arith, append_assoc, append-nil, length-append, codes}
 use Rattle.std.specs.List.{list_all}
 use Rattle.std.specs.Option.{option_map_or}
 use Rattle.std.proofs.lemmas.Bool.{false≢true, ne_eqb}
@@ -22,13 +22,13 @@ use Rattle.tx_tree.specs.declared.row.NewRow.{NewRow}
 use Rattle.tx_tree.specs.declared.row.Row.{Row}
 use Rattle.tx_tree_file.proofs.FoundParts.{both}
 use Rattle.tx_tree_file.proofs.LastRows.{ok-same}
-use Rattle.tx_tree_file.specs.FirstFault.{ids_differ, is_held, IsBegun}
+use Rattle.tx_tree_file.specs.FirstFault.{line_count, ids_differ, is_held, IsBegun}
 use Rattle.tx_tree_file.proofs.AgainLines.{encode-all, row-utf8, HasParts, has-parts, row-begins, blanks-again, row-again, row_line-again, bind_line-again, new_of}
 use Rattle.tx_tree_file.proofs.Whole.{first-read}
 use Rattle.tx_tree_file.specs.Indent.{blanks}
 use Rattle.tx_tree_file.specs.Spelling.{indent, row_text, row_line, bind_text, bind_line, row_lines, spelling}
 use Rattle.tx_tree_file.specs.TreeFile.{is_typed, bind_is_typed, kind_is_typed, id_is_typed, kept, read_row, read_again, IsReading}
-use Rattle.tx_tree_file.specs.TreeReading.{Begun, LineFault, screen, first_item, row_of, with_bind, with_new, or_fault, rows_behind, tree_of, Reads, GivesRows}
+use Rattle.tx_tree_file.specs.TreeReading.{rows_so_far, Begun, LineFault, screen, first_item, row_of, with_bind, with_new, or_fault, rows_behind, tree_of, Reads, GivesRows}
 use Rattle.std.specs.Char.{is_ascii_digit}
 use Rattle.std.specs.List.{list_any}
 use Rattle.std.specs.Option.{option_eq}
@@ -173,7 +173,7 @@ inline-free : (inline : List ℕ) → Free inline → Free (inline_part inline)
 inline-free [] h = refl
 inline-free (b ∷ bytes) h = and-free (codes " {" ++ (b ∷ bytes)) (codes "}") h refl
 
-pub row-free : (row : Row) → HasParts row → Free (indent row.depth ++ row_text row)
+row-free : (row : Row) → HasParts row → Free (indent row.depth ++ row_text row)
 row-free row h =
     and-free (indent row.depth) (row_text row) (blanks-free (2 * row.depth)) (and-free (kind_name row.kind) _ (kind-free row.kind h.kind_typed) (and-free (id_part row.id) _ (id-free row.id h.id_typed)
     (and-free (class_parts row.classes.names) _ (classes-free row.classes.names h.classes_typed) (and-free (disabled_part row.disabled) _ (disabled-free row.disabled) (and-free (private_part row.private) _ (private-free row.kind row.private h.private_spelled)
@@ -226,7 +226,7 @@ priority-free : (b : Bool) → Free (priority_part b)
 priority-free true = refl
 priority-free false = refl
 
-pub bind-free : (depth : ℕ) (bind : Bind) → key_is_spelled bind.key ≡ true → bind_is_typed bind ≡ true → Free (indent (depth + 1) ++ bind_text bind)
+bind-free : (depth : ℕ) (bind : Bind) → key_is_spelled bind.key ≡ true → bind_is_typed bind ≡ true → Free (indent (depth + 1) ++ bind_text bind)
 bind-free depth bind h t =
     and-free (indent (depth + 1)) (bind_text bind) (blanks-free (2 * (depth + 1))) (and-free (priority_part bind.priority) _ (priority-free bind.priority)
     (and-free (key_name bind.key) _ (key-free bind.key h) (action-free bind.action (and-right (key_is_typed bind.key) _ t))))
@@ -251,7 +251,7 @@ no_binds last = ap (λ (z : List Bind). record last { binds = z }) (append-nil l
 more_binds : (bind : Bind) (binds : List Bind) (last : Row) → with_binds binds (with_bind bind last) ≡ with_binds (bind ∷ binds) last
 more_binds bind binds last = ap (λ (z : List Bind). record last { binds = z }) (append_assoc last.binds (bind ∷ []) binds)
 
-pub binds-again : (binds : List Bind) (rest : List ℕ) (done : ℕ) (before : List Row) (last : Row) → list_all (λ bind. key_is_spelled bind.key) binds ≡ true → list_all bind_is_typed binds ≡ true
+binds-again : (binds : List Bind) (rest : List ℕ) (done : ℕ) (before : List Row) (last : Row) → list_all (λ bind. key_is_spelled bind.key) binds ≡ true → list_all bind_is_typed binds ≡ true
     → rows_behind (pieces 10 (flat_map (bind_line last.depth) binds ++ rest)) done (record { before = before; last = last }) ≡ rows_behind (pieces 10 rest) (done + length binds) (record { before = before; last = with_binds binds last })
 binds-again [] rest done before last h t =
     ap₂ (λ (n : ℕ) (z : Row). rows_behind (pieces 10 rest) n (record { before = before; last = z })) (omega arith) (sym (no_binds last))
@@ -280,7 +280,7 @@ above-snoc d found (r ∷ rows) row = above-snoc d (cond (r.depth + 1 == d) (Som
 abbrev pub Held : List Row → ℕ → Type 0
 Held rows depth = (d : ℕ) → 1 ≤ d → d ≤ depth → is_held d rows ≡ true
 
-pub held-here : (rows : List Row) (last row : Row) → Held (rows ++ last ∷ []) last.depth → MayFollow last row → is_held row.depth (rows ++ last ∷ []) ≡ true
+held-here : (rows : List Row) (last row : Row) → Held (rows ++ last ∷ []) last.depth → MayFollow last row → is_held row.depth (rows ++ last ∷ []) ≡ true
 held-here rows last row h f = by (nat_le row.depth last.depth) refl
   where
     by : (b : Bool) → nat_le row.depth last.depth ≡ b → is_held row.depth (rows ++ last ∷ []) ≡ true
@@ -292,12 +292,12 @@ held-here rows last row h f = by (nat_le row.depth last.depth) refl
         ap (λ (o : Option Row). option_map_or (λ parent. holds_children parent.kind) o true) (above-snoc row.depth None rows last ∙ ap (λ (b : Bool). cond b (Some last) (last_above row.depth None rows)) ((Decides-eqb (last.depth + 1) row.depth).1 (sym next)))
         ∙ f.held next
 
-pub held-more : (rows : List Row) (row : Row) → Held rows row.depth → Held (rows ++ row ∷ []) row.depth
+held-more : (rows : List Row) (row : Row) → Held rows row.depth → Held (rows ++ row ∷ []) row.depth
 held-more rows row h d below few =
     let other : (row.depth + 1 == d) ≡ false = ne_eqb (row.depth + 1) d (λ same. absurd (omega (arith, same, few))) in
     ap (λ (o : Option Row). option_map_or (λ parent. holds_children parent.kind) o true) (above-snoc d None rows row ∙ ap (λ (b : Bool). cond b (Some row) (last_above d None rows)) other) ∙ h d below few
 
-pub held-next : (rows : List Row) (last row : Row) → Held (rows ++ last ∷ []) last.depth → MayFollow last row → Held (rows ++ last ∷ []) row.depth
+held-next : (rows : List Row) (last row : Row) → Held (rows ++ last ∷ []) last.depth → MayFollow last row → Held (rows ++ last ∷ []) row.depth
 held-next rows last row h f d below few = by (nat_le d last.depth) refl
   where
     by : (b : Bool) → nat_le d last.depth ≡ b → is_held d (rows ++ last ∷ []) ≡ true
@@ -308,7 +308,7 @@ held-next rows last row h f d below few = by (nat_le d last.depth) refl
         let here : row.depth ≡ d = omega (arith, more, step, few) in
         subst (λ (n : ℕ). is_held n (rows ++ last ∷ []) ≡ true) here (held-here rows last row h f)
 
-pub again-head : (n : ℕ) (row : Row) (rows : List Row) → row ∷ rows ≡ read_again n (row ∷ rows) → (row ≡ read_row n row) × (rows ≡ read_again (n + 1) rows)
+again-head : (n : ℕ) (row : Row) (rows : List Row) → row ∷ rows ≡ read_again n (row ∷ rows) → (row ≡ read_row n row) × (rows ≡ read_again (n + 1) rows)
 again-head n row rows h = (head (row ∷ rows) (read_again n (row ∷ rows)) h, tail (row ∷ rows) (read_again n (row ∷ rows)) h)
   where
     head_or : List Row → Row
@@ -326,46 +326,75 @@ again-head n row rows h = (head (row ∷ rows) (read_again n (row ∷ rows)) h, 
     tail xs ys e = ap tail_or e
 
 -- the row that is read is the row
-pub row-whole : (n : ℕ) (row : Row) → row ≡ read_row n row → with_binds row.binds (placed (new_of row) n row.depth) ≡ row
+row-whole : (n : ℕ) (row : Row) → row ≡ read_row n row → with_binds row.binds (placed (new_of row) n row.depth) ≡ row
 row-whole n row e = sym e
 
-pub with_new-again : (rows : List Row) (d : ℕ) (new : NewRow) → is_held d rows ≡ true → (length rows == 65536) ≡ false → is_taken new.id rows ≡ false
+with_new-again : (rows : List Row) (d : ℕ) (new : NewRow) → is_held d rows ≡ true → (length rows == 65536) ≡ false → is_taken new.id rows ≡ false
     → with_new rows d new ≡ Ok (record { before = rows; last = placed new (length rows + 1) d })
 with_new-again rows d new a b c = rw (a, b, c) refl
 
-pub rows-again : (rows : List Row) (done : ℕ) (before : List Row) (last : Row) → MayAllFollow last rows → last.depth ≤ 63 → list_all is_typed rows ≡ true → list_all is_spelled rows ≡ true
+-- the lines of these rows are read, whatever stands behind them
+record Reached (tail : List ℕ) (done : ℕ) (begun : Begun) (rows : List Row) : Type 0 where
+  pub next : Begun
+  pub is : rows_so_far next ≡ rows_so_far begun ++ rows
+  pub deep : next.last.depth ≤ 63
+  pub read : rows_behind (pieces 10 (spelling rows ++ tail)) done begun ≡ rows_behind (pieces 10 tail) (done + line_count rows) next
+
+count-cons : (row : Row) (rows : List Row) → line_count (row ∷ rows) ≡ length row.binds + 1 + line_count rows
+count-cons row rows = by (length row.binds + 1) 0 rows
+  where
+    add : (n m : ℕ) (rows : List Row) → fold (λ a x. a + (length x.binds + 1)) (n + m) rows ≡ n + fold (λ a x. a + (length x.binds + 1)) m rows
+    add n m [] = refl
+    add n m (r ∷ rows) = ap (λ (k : ℕ). fold (λ a x. a + (length x.binds + 1)) k rows) (omega arith) ∙ add n (m + (length r.binds + 1)) rows
+    by : (n m : ℕ) (rows : List Row) → fold (λ a x. a + (length x.binds + 1)) (m + n) rows ≡ n + fold (λ a x. a + (length x.binds + 1)) m rows
+    by n m rows = ap (λ (k : ℕ). fold (λ a x. a + (length x.binds + 1)) k rows) (omega arith) ∙ add n m rows
+
+rows-reached : (rows : List Row) (tail : List ℕ) (done : ℕ) (before : List Row) (last : Row) → MayAllFollow last rows → last.depth ≤ 63 → list_all is_typed rows ≡ true → list_all is_spelled rows ≡ true
     → rows ≡ read_again (length before + 2) rows → ids_differ (before ++ last ∷ []) rows ≡ true → length before + 1 + length rows ≤ 65536 → Held (before ++ last ∷ []) last.depth
-    → rows_behind (pieces 10 (spelling rows)) done (record { before = before; last = last }) ≡ Ok ((before ++ last ∷ []) ++ rows)
-rows-again [] done before last follow deep typed spelled fresh ids few held = ap Ok (sym (append-nil (before ++ last ∷ [])))
-rows-again (row ∷ rows) done before last follow deep typed spelled fresh ids few held =
+    → Reached tail done (record { before = before; last = last }) rows
+rows-reached [] tail done before last follow deep typed spelled fresh ids few held = record {
+  next = record { before = before; last = last };
+  is = sym (append-nil (before ++ last ∷ []));
+  deep = deep;
+  read = ap (λ (n : ℕ). rows_behind (pieces 10 tail) n (record { before = before; last = last })) (omega arith);
+}
+rows-reached (row ∷ rows) tail done before last follow deep typed spelled fresh ids few held =
     let so_far = before ++ last ∷ [] in
     let parts = has-parts row (and-left _ _ typed) (and-left _ _ spelled) in
     let f = follow.0 in
     let line = indent row.depth ++ row_text row in
-    let more = flat_map (bind_line row.depth) row.binds ++ spelling rows in
+    let more = flat_map (bind_line row.depth) row.binds ++ (spelling rows ++ tail) in
     let size : length so_far ≡ length before + 1 = length-append before (last ∷ []) in
     let (same, rest) = again-head (length before + 2) row rows fresh in
     let number : length before + 2 ≡ length so_far + 1 = omega (arith, size) in
-    let text : spelling (row ∷ rows) ≡ line ++ (10 ∷ more) =
-    append_assoc (row_line row) (flat_map (bind_line row.depth) row.binds) (spelling rows)
-    ∙ ap (λ (z : List ℕ). z ++ more) (sym (append_assoc (indent row.depth) (row_text row) (codes "\n")))
-    ∙ append_assoc line (codes "\n") more in
+    let text : spelling (row ∷ rows) ++ tail ≡ line ++ (10 ∷ more) =
+      append_assoc (row_lines row) (spelling rows) tail
+      ∙ append_assoc (row_line row) (flat_map (bind_line row.depth) row.binds) (spelling rows ++ tail)
+      ∙ ap (λ (z : List ℕ). z ++ more) (sym (append_assoc (indent row.depth) (row_text row) (codes "\n")))
+      ∙ append_assoc line (codes "\n") more in
     let below = f.below_first in
     let step = f.step in
     let shallow = f.shallow in
-    ap (λ (z : List ℕ). rows_behind (pieces 10 z) done (record { before = before; last = last })) text
-    ∙ row_line_read (line ++ (10 ∷ more)) line more done row.depth before last (new_of row) (cut-again line more (row-free row parts)) (row_line-again last.depth row.depth row parts f.no_screen below shallow step)
-    ∙ ap (λ (r : Result Begun TreeKind). or_fault (done + 1) r (rows_behind (pieces 10 more) (done + 1))) (with_new-again so_far row.depth (new_of row) (held-here before last row held f)
-    (ne_eqb (length so_far) 65536 (λ full. absurd (omega (arith, full, size, few)))) (not_inv (is_taken row.id so_far) (and-left _ _ ids)))
-    ∙ binds-again row.binds (spelling rows) (done + 1) so_far (placed (new_of row) (length so_far + 1) row.depth) parts.binds_spelled parts.binds_typed
-    ∙ ap (λ (z : Row). rows_behind (pieces 10 (spelling rows)) (done + 1 + length row.binds) (record { before = so_far; last = z })) (row-whole (length so_far + 1) row (same ∙ ap (λ (n : ℕ). read_row n row) number))
-    ∙ rows-again rows (done + 1 + length row.binds) so_far row follow.1 shallow (and-right (is_typed row) _ typed) (and-right (is_spelled row) _ spelled)
-    (rest ∙ ap (λ (n : ℕ). read_again n rows) (omega (arith, size))) (and-right (not (is_taken row.id so_far)) _ ids) (omega (arith, size, few)) (held-more so_far row (held-next before last row held f))
-    ∙ ap Ok (append_assoc so_far (row ∷ []) rows)
+    let count = count-cons row rows in
+    let there = rows-reached rows tail (done + 1 + length row.binds) so_far row follow.1 shallow (and-right (is_typed row) _ typed) (and-right (is_spelled row) _ spelled)
+        (rest ∙ ap (λ (n : ℕ). read_again n rows) (omega (arith, size))) (and-right (not (is_taken row.id so_far)) _ ids) (omega (arith, size, few)) (held-more so_far row (held-next before last row held f)) in
+    record {
+      next = there.next;
+      is = there.is ∙ append_assoc so_far (row ∷ []) rows;
+      deep = there.deep;
+      read = ap (λ (z : List ℕ). rows_behind (pieces 10 z) done (record { before = before; last = last })) text
+        ∙ row_line_read (line ++ (10 ∷ more)) line more done row.depth before last (new_of row) (cut-again line more (row-free row parts)) (row_line-again last.depth row.depth row parts f.no_screen below shallow step)
+        ∙ ap (λ (r : Result Begun TreeKind). or_fault (done + 1) r (rows_behind (pieces 10 more) (done + 1))) (with_new-again so_far row.depth (new_of row) (held-here before last row held f)
+            (ne_eqb (length so_far) 65536 (λ full. absurd (omega (arith, full, size, few)))) (not_inv (is_taken row.id so_far) (and-left _ _ ids)))
+        ∙ binds-again row.binds (spelling rows ++ tail) (done + 1) so_far (placed (new_of row) (length so_far + 1) row.depth) parts.binds_spelled parts.binds_typed
+        ∙ ap (λ (z : Row). rows_behind (pieces 10 (spelling rows ++ tail)) (done + 1 + length row.binds) (record { before = so_far; last = z })) (row-whole (length so_far + 1) row (same ∙ ap (λ (n : ℕ). read_row n row) number))
+        ∙ there.read
+        ∙ ap (λ (n : ℕ). rows_behind (pieces 10 tail) n there.next) (omega (arith, count));
+    }
 
 -- ---- the first line
 
-pub first-again : (row : Row) → HasParts row → is_screen row.kind ≡ true → first_item (row_text row) true ≡ Ok (new_of row)
+first-again : (row : Row) → HasParts row → is_screen row.kind ≡ true → first_item (row_text row) true ≡ Ok (new_of row)
 first-again row h screen_is =
     let utf8 = is_utf8-from_IsUtf8 (row_text row) (row-utf8 row h) in
     let (count, past) = blanks-again 0 (row_text row) (row-begins row h.kind_spelled).0 in
@@ -374,27 +403,48 @@ first-again row h screen_is =
     ∙ ap screen (row-again row h)
     ∙ ap (λ (b : Bool). cond b (Ok (new_of row)) (Err Expected)) screen_is
 
-pub file-again : (rows : List Row) → IsBegun rows → IsPreorder rows → tree_of (spelling rows) ≡ Ok rows
-file-again [] h p = absurd p
-file-again (row ∷ rows) h p =
+-- all rows of a file's beginning
+pub record IsReached (tail : List ℕ) (rows : List Row) : Type 0 where
+  pub next : Begun
+  pub is : rows_so_far next ≡ rows
+  pub deep : next.last.depth ≤ 63
+  pub read : tree_of (spelling rows ++ tail) ≡ rows_behind (pieces 10 tail) (line_count rows) next
+
+pub file-reached : (rows : List Row) (tail : List ℕ) → IsBegun rows → IsPreorder rows → IsReached tail rows
+file-reached [] tail h p = absurd p
+file-reached (row ∷ rows) tail h p =
     let parts = has-parts row (and-left _ _ h.typed) (and-left _ _ h.spelled) in
     let first = p.0 in
-    let more = flat_map (bind_line row.depth) row.binds ++ spelling rows in
+    let more = flat_map (bind_line row.depth) row.binds ++ (spelling rows ++ tail) in
     let flat : indent row.depth ≡ [] = ap indent first.depth in
-    let text : spelling (row ∷ rows) ≡ row_text row ++ (10 ∷ more) =
-    append_assoc (row_line row) (flat_map (bind_line row.depth) row.binds) (spelling rows)
-    ∙ ap (λ (z : List ℕ). (z ++ (row_text row ++ codes "\n")) ++ more) flat
-    ∙ append_assoc (row_text row) (codes "\n") more in
-    let free : Free (row_text row) = ap (λ (z : List ℕ). list_all no_line_feed (z ++ row_text row)) (sym flat) ∙ row-free row parts in
+    let text : spelling (row ∷ rows) ++ tail ≡ row_text row ++ (10 ∷ more) =
+      append_assoc (row_lines row) (spelling rows) tail
+      ∙ append_assoc (row_line row) (flat_map (bind_line row.depth) row.binds) (spelling rows ++ tail)
+      ∙ ap (λ (z : List ℕ). (z ++ (row_text row ++ codes "\n")) ++ more) flat
+      ∙ append_assoc (row_text row) (codes "\n") more in
+    let free : list_all no_line_feed (row_text row) ≡ true = ap (λ (z : List ℕ). list_all no_line_feed (z ++ row_text row)) (sym flat) ∙ row-free row parts in
     let (same, rest) = again-head 1 row rows h.fresh in
     let few = h.few in
-    ap tree_of text
-    ∙ sym (first-read (row_text row ++ (10 ∷ more)) (row_text row) more (new_of row) (cut-again (row_text row) more free) (first-again row parts first.screen))
-    ∙ ap (λ (d : ℕ). rows_behind (pieces 10 (flat_map (bind_line row.depth) row.binds ++ spelling rows)) 1 (record { before = []; last = placed (new_of row) 1 d })) (sym first.depth)
-    ∙ binds-again row.binds (spelling rows) 1 [] (placed (new_of row) 1 row.depth) parts.binds_spelled parts.binds_typed
-    ∙ ap (λ (z : Row). rows_behind (pieces 10 (spelling rows)) (1 + length row.binds) (record { before = []; last = z })) (row-whole 1 row same)
-    ∙ rows-again rows (1 + length row.binds) [] row p.1 (let d = first.depth in omega (arith, d)) (and-right (is_typed row) _ h.typed) (and-right (is_spelled row) _ h.spelled) rest
-    (and-right (not (is_taken row.id [])) _ h.ids) (omega (arith, few)) (λ d below few. absurd (let flat2 = first.depth in omega (arith, below, few, flat2)))
+    let count = count-cons row rows in
+    let there = rows-reached rows tail (1 + length row.binds) [] row p.1 (let d = first.depth in omega (arith, d)) (and-right (is_typed row) _ h.typed) (and-right (is_spelled row) _ h.spelled) rest
+        (and-right (not (is_taken row.id [])) _ h.ids) (omega (arith, few)) (λ d below few. absurd (let flat2 = first.depth in omega (arith, below, few, flat2))) in
+    record {
+      next = there.next;
+      is = there.is;
+      deep = there.deep;
+      read = ap tree_of text
+        ∙ sym (first-read (row_text row ++ (10 ∷ more)) (row_text row) more (new_of row) (cut-again (row_text row) more free) (first-again row parts first.screen))
+        ∙ ap (λ (d : ℕ). rows_behind (pieces 10 more) 1 (record { before = []; last = placed (new_of row) 1 d })) (sym first.depth)
+        ∙ binds-again row.binds (spelling rows ++ tail) 1 [] (placed (new_of row) 1 row.depth) parts.binds_spelled parts.binds_typed
+        ∙ ap (λ (z : Row). rows_behind (pieces 10 (spelling rows ++ tail)) (1 + length row.binds) (record { before = []; last = z })) (row-whole 1 row same)
+        ∙ there.read
+        ∙ ap (λ (n : ℕ). rows_behind (pieces 10 tail) n there.next) (omega (arith, count));
+    }
+
+pub file-again : (rows : List Row) → IsBegun rows → IsPreorder rows → tree_of (spelling rows) ≡ Ok rows
+file-again rows h p =
+    let there = file-reached rows [] h p in
+    ap tree_of (sym (append-nil (spelling rows))) ∙ there.read ∙ ap Ok there.is
 
 -- ---- ids in a tree
 

@@ -70,7 +70,7 @@ use Rattle.tx_tree_file.specs.Sections.{with_binds}
 use Rattle.tx_tree_file.specs.Spelling.{id_part, class_part, class_parts, disabled_part, private_part, escaped, text_part, inline_part, key_name, action_name, priority_part}
 use Rattle.tx_tree_file.specs.TreeFile.{action_is_typed, key_is_typed}
 use Rattle.tx_tree_file.proofs.LastRows.{is_bind, is_widget}
-use Rattle.tx_tree_file.proofs.AgainFile.{Held, row-free, bind-free, cut-again, binds-again, row-whole, again-head, held-here, held-next, held-more, with_new-again, first-again}
+use Rattle.tx_tree_file.proofs.AgainFile.{cut-again, IsReached, file-reached}
 use Rattle.tx_tree_file.proofs.Faults.{spelled-blanks, last-snoc, some_rows, row_line-of, bind_item-err, widget-err, screen-err}
 use Rattle.tx_tree_file.proofs.LastRows.{more_lines}
 use Rattle.tx_tree_file.proofs.Whole.{first-cut, screen-inv, bind_stands-inv}
@@ -81,103 +81,6 @@ cut-last [] h = refl
 cut-last (b ∷ line) h =
     let other : (b == 10) ≡ false = not_inv (b == 10) (and-left (no_line_feed b) _ h) in
     ap (λ (x : Bool). cond x ([] ∷ pieces 10 line) (onto b (pieces 10 line))) other ∙ ap (onto b) (cut-last line (and-right (no_line_feed b) _ h))
-
--- the lines of these rows are read, whatever stands behind them
-record Reached (tail : List ℕ) (done : ℕ) (begun : Begun) (rows : List Row) : Type 0 where
-  pub next : Begun
-  pub is : rows_so_far next ≡ rows_so_far begun ++ rows
-  pub deep : next.last.depth ≤ 63
-  pub read : rows_behind (pieces 10 (spelling rows ++ tail)) done begun ≡ rows_behind (pieces 10 tail) (done + line_count rows) next
-
-count-cons : (row : Row) (rows : List Row) → line_count (row ∷ rows) ≡ length row.binds + 1 + line_count rows
-count-cons row rows = by (length row.binds + 1) 0 rows
-  where
-    add : (n m : ℕ) (rows : List Row) → fold (λ a x. a + (length x.binds + 1)) (n + m) rows ≡ n + fold (λ a x. a + (length x.binds + 1)) m rows
-    add n m [] = refl
-    add n m (r ∷ rows) = ap (λ (k : ℕ). fold (λ a x. a + (length x.binds + 1)) k rows) (omega arith) ∙ add n (m + (length r.binds + 1)) rows
-    by : (n m : ℕ) (rows : List Row) → fold (λ a x. a + (length x.binds + 1)) (m + n) rows ≡ n + fold (λ a x. a + (length x.binds + 1)) m rows
-    by n m rows = ap (λ (k : ℕ). fold (λ a x. a + (length x.binds + 1)) k rows) (omega arith) ∙ add n m rows
-
-rows-reached : (rows : List Row) (tail : List ℕ) (done : ℕ) (before : List Row) (last : Row) → MayAllFollow last rows → last.depth ≤ 63 → list_all is_typed rows ≡ true → list_all is_spelled rows ≡ true
-    → rows ≡ read_again (length before + 2) rows → ids_differ (before ++ last ∷ []) rows ≡ true → length before + 1 + length rows ≤ 65536 → Held (before ++ last ∷ []) last.depth
-    → Reached tail done (record { before = before; last = last }) rows
-rows-reached [] tail done before last follow deep typed spelled fresh ids few held = record {
-  next = record { before = before; last = last };
-  is = sym (append-nil (before ++ last ∷ []));
-  deep = deep;
-  read = ap (λ (n : ℕ). rows_behind (pieces 10 tail) n (record { before = before; last = last })) (omega arith);
-}
-rows-reached (row ∷ rows) tail done before last follow deep typed spelled fresh ids few held =
-    let so_far = before ++ last ∷ [] in
-    let parts = has-parts row (and-left _ _ typed) (and-left _ _ spelled) in
-    let f = follow.0 in
-    let line = indent row.depth ++ row_text row in
-    let more = flat_map (bind_line row.depth) row.binds ++ (spelling rows ++ tail) in
-    let size : length so_far ≡ length before + 1 = length-append before (last ∷ []) in
-    let (same, rest) = again-head (length before + 2) row rows fresh in
-    let number : length before + 2 ≡ length so_far + 1 = omega (arith, size) in
-    let text : spelling (row ∷ rows) ++ tail ≡ line ++ (10 ∷ more) =
-      append_assoc (row_lines row) (spelling rows) tail
-      ∙ append_assoc (row_line row) (flat_map (bind_line row.depth) row.binds) (spelling rows ++ tail)
-      ∙ ap (λ (z : List ℕ). z ++ more) (sym (append_assoc (indent row.depth) (row_text row) (codes "\n")))
-      ∙ append_assoc line (codes "\n") more in
-    let below = f.below_first in
-    let step = f.step in
-    let shallow = f.shallow in
-    let count = count-cons row rows in
-    let there = rows-reached rows tail (done + 1 + length row.binds) so_far row follow.1 shallow (and-right (is_typed row) _ typed) (and-right (is_spelled row) _ spelled)
-        (rest ∙ ap (λ (n : ℕ). read_again n rows) (omega (arith, size))) (and-right (not (is_taken row.id so_far)) _ ids) (omega (arith, size, few)) (held-more so_far row (held-next before last row held f)) in
-    record {
-      next = there.next;
-      is = there.is ∙ append_assoc so_far (row ∷ []) rows;
-      deep = there.deep;
-      read = ap (λ (z : List ℕ). rows_behind (pieces 10 z) done (record { before = before; last = last })) text
-        ∙ row_line_read (line ++ (10 ∷ more)) line more done row.depth before last (new_of row) (cut-again line more (row-free row parts)) (row_line-again last.depth row.depth row parts f.no_screen below shallow step)
-        ∙ ap (λ (r : Result Begun TreeKind). or_fault (done + 1) r (rows_behind (pieces 10 more) (done + 1))) (with_new-again so_far row.depth (new_of row) (held-here before last row held f)
-            (ne_eqb (length so_far) 65536 (λ full. absurd (omega (arith, full, size, few)))) (not_inv (is_taken row.id so_far) (and-left _ _ ids)))
-        ∙ binds-again row.binds (spelling rows ++ tail) (done + 1) so_far (placed (new_of row) (length so_far + 1) row.depth) parts.binds_spelled parts.binds_typed
-        ∙ ap (λ (z : Row). rows_behind (pieces 10 (spelling rows ++ tail)) (done + 1 + length row.binds) (record { before = so_far; last = z })) (row-whole (length so_far + 1) row (same ∙ ap (λ (n : ℕ). read_row n row) number))
-        ∙ there.read
-        ∙ ap (λ (n : ℕ). rows_behind (pieces 10 tail) n there.next) (omega (arith, count));
-    }
-
--- all rows of a file's beginning
-record IsReached (tail : List ℕ) (rows : List Row) : Type 0 where
-  pub next : Begun
-  pub is : rows_so_far next ≡ rows
-  pub deep : next.last.depth ≤ 63
-  pub read : tree_of (spelling rows ++ tail) ≡ rows_behind (pieces 10 tail) (line_count rows) next
-
-file-reached : (rows : List Row) (tail : List ℕ) → IsBegun rows → IsPreorder rows → IsReached tail rows
-file-reached [] tail h p = absurd p
-file-reached (row ∷ rows) tail h p =
-    let parts = has-parts row (and-left _ _ h.typed) (and-left _ _ h.spelled) in
-    let first = p.0 in
-    let more = flat_map (bind_line row.depth) row.binds ++ (spelling rows ++ tail) in
-    let flat : indent row.depth ≡ [] = ap indent first.depth in
-    let text : spelling (row ∷ rows) ++ tail ≡ row_text row ++ (10 ∷ more) =
-      append_assoc (row_lines row) (spelling rows) tail
-      ∙ append_assoc (row_line row) (flat_map (bind_line row.depth) row.binds) (spelling rows ++ tail)
-      ∙ ap (λ (z : List ℕ). (z ++ (row_text row ++ codes "\n")) ++ more) flat
-      ∙ append_assoc (row_text row) (codes "\n") more in
-    let free : list_all no_line_feed (row_text row) ≡ true = ap (λ (z : List ℕ). list_all no_line_feed (z ++ row_text row)) (sym flat) ∙ row-free row parts in
-    let (same, rest) = again-head 1 row rows h.fresh in
-    let few = h.few in
-    let count = count-cons row rows in
-    let there = rows-reached rows tail (1 + length row.binds) [] row p.1 (let d = first.depth in omega (arith, d)) (and-right (is_typed row) _ h.typed) (and-right (is_spelled row) _ h.spelled) rest
-        (and-right (not (is_taken row.id [])) _ h.ids) (omega (arith, few)) (λ d below few. absurd (let flat2 = first.depth in omega (arith, below, few, flat2))) in
-    record {
-      next = there.next;
-      is = there.is;
-      deep = there.deep;
-      read = ap tree_of text
-        ∙ sym (first-read (row_text row ++ (10 ∷ more)) (row_text row) more (new_of row) (cut-again (row_text row) more free) (first-again row parts first.screen))
-        ∙ ap (λ (d : ℕ). rows_behind (pieces 10 more) 1 (record { before = []; last = placed (new_of row) 1 d })) (sym first.depth)
-        ∙ binds-again row.binds (spelling rows ++ tail) 1 [] (placed (new_of row) 1 row.depth) parts.binds_spelled parts.binds_typed
-        ∙ ap (λ (z : Row). rows_behind (pieces 10 (spelling rows ++ tail)) (1 + length row.binds) (record { before = []; last = z })) (row-whole 1 row same)
-        ∙ there.read
-        ∙ ap (λ (n : ℕ). rows_behind (pieces 10 tail) n there.next) (omega (arith, count));
-    }
 
 -- a binding's line
 record IsBindLine (begun : Begun) (line : List ℕ) (bind : Bind) : Type 0 where
