@@ -346,6 +346,7 @@ count-cons row rows = by (length row.binds + 1) 0 rows
     add : (n m : ℕ) (rows : List Row) → fold (λ a x. a + (length x.binds + 1)) (n + m) rows ≡ n + fold (λ a x. a + (length x.binds + 1)) m rows
     add n m [] = refl
     add n m (r ∷ rows) = ap (λ (k : ℕ). fold (λ a x. a + (length x.binds + 1)) k rows) (omega arith) ∙ add n (m + (length r.binds + 1)) rows
+
     by : (n m : ℕ) (rows : List Row) → fold (λ a x. a + (length x.binds + 1)) (m + n) rows ≡ n + fold (λ a x. a + (length x.binds + 1)) m rows
     by n m rows = ap (λ (k : ℕ). fold (λ a x. a + (length x.binds + 1)) k rows) (omega arith) ∙ add n m rows
 
@@ -368,28 +369,28 @@ rows-reached (row ∷ rows) tail done before last follow deep typed spelled fres
     let (same, rest) = again-head (length before + 2) row rows fresh in
     let number : length before + 2 ≡ length so_far + 1 = omega (arith, size) in
     let text : spelling (row ∷ rows) ++ tail ≡ line ++ (10 ∷ more) =
-      append_assoc (row_lines row) (spelling rows) tail
-      ∙ append_assoc (row_line row) (flat_map (bind_line row.depth) row.binds) (spelling rows ++ tail)
-      ∙ ap (λ (z : List ℕ). z ++ more) (sym (append_assoc (indent row.depth) (row_text row) (codes "\n")))
-      ∙ append_assoc line (codes "\n") more in
+    append_assoc (row_lines row) (spelling rows) tail
+    ∙ append_assoc (row_line row) (flat_map (bind_line row.depth) row.binds) (spelling rows ++ tail)
+    ∙ ap (λ (z : List ℕ). z ++ more) (sym (append_assoc (indent row.depth) (row_text row) (codes "\n")))
+    ∙ append_assoc line (codes "\n") more in
     let below = f.below_first in
     let step = f.step in
     let shallow = f.shallow in
     let count = count-cons row rows in
     let there = rows-reached rows tail (done + 1 + length row.binds) so_far row follow.1 shallow (and-right (is_typed row) _ typed) (and-right (is_spelled row) _ spelled)
-        (rest ∙ ap (λ (n : ℕ). read_again n rows) (omega (arith, size))) (and-right (not (is_taken row.id so_far)) _ ids) (omega (arith, size, few)) (held-more so_far row (held-next before last row held f)) in
+    (rest ∙ ap (λ (n : ℕ). read_again n rows) (omega (arith, size))) (and-right (not (is_taken row.id so_far)) _ ids) (omega (arith, size, few)) (held-more so_far row (held-next before last row held f)) in
     record {
       next = there.next;
       is = there.is ∙ append_assoc so_far (row ∷ []) rows;
       deep = there.deep;
       read = ap (λ (z : List ℕ). rows_behind (pieces 10 z) done (record { before = before; last = last })) text
-        ∙ row_line_read (line ++ (10 ∷ more)) line more done row.depth before last (new_of row) (cut-again line more (row-free row parts)) (row_line-again last.depth row.depth row parts f.no_screen below shallow step)
-        ∙ ap (λ (r : Result Begun TreeKind). or_fault (done + 1) r (rows_behind (pieces 10 more) (done + 1))) (with_new-again so_far row.depth (new_of row) (held-here before last row held f)
-            (ne_eqb (length so_far) 65536 (λ full. absurd (omega (arith, full, size, few)))) (not_inv (is_taken row.id so_far) (and-left _ _ ids)))
-        ∙ binds-again row.binds (spelling rows ++ tail) (done + 1) so_far (placed (new_of row) (length so_far + 1) row.depth) parts.binds_spelled parts.binds_typed
-        ∙ ap (λ (z : Row). rows_behind (pieces 10 (spelling rows ++ tail)) (done + 1 + length row.binds) (record { before = so_far; last = z })) (row-whole (length so_far + 1) row (same ∙ ap (λ (n : ℕ). read_row n row) number))
-        ∙ there.read
-        ∙ ap (λ (n : ℕ). rows_behind (pieces 10 tail) n there.next) (omega (arith, count));
+          ∙ row_line_read (line ++ (10 ∷ more)) line more done row.depth before last (new_of row) (cut-again line more (row-free row parts)) (row_line-again last.depth row.depth row parts f.no_screen below shallow step)
+          ∙ ap (λ (r : Result Begun TreeKind). or_fault (done + 1) r (rows_behind (pieces 10 more) (done + 1))) (with_new-again so_far row.depth (new_of row) (held-here before last row held f)
+          (ne_eqb (length so_far) 65536 (λ full. absurd (omega (arith, full, size, few)))) (not_inv (is_taken row.id so_far) (and-left _ _ ids)))
+          ∙ binds-again row.binds (spelling rows ++ tail) (done + 1) so_far (placed (new_of row) (length so_far + 1) row.depth) parts.binds_spelled parts.binds_typed
+          ∙ ap (λ (z : Row). rows_behind (pieces 10 (spelling rows ++ tail)) (done + 1 + length row.binds) (record { before = so_far; last = z })) (row-whole (length so_far + 1) row (same ∙ ap (λ (n : ℕ). read_row n row) number))
+          ∙ there.read
+          ∙ ap (λ (n : ℕ). rows_behind (pieces 10 tail) n there.next) (omega (arith, count));
     }
 
 -- ---- the first line
@@ -418,27 +419,27 @@ file-reached (row ∷ rows) tail h p =
     let more = flat_map (bind_line row.depth) row.binds ++ (spelling rows ++ tail) in
     let flat : indent row.depth ≡ [] = ap indent first.depth in
     let text : spelling (row ∷ rows) ++ tail ≡ row_text row ++ (10 ∷ more) =
-      append_assoc (row_lines row) (spelling rows) tail
-      ∙ append_assoc (row_line row) (flat_map (bind_line row.depth) row.binds) (spelling rows ++ tail)
-      ∙ ap (λ (z : List ℕ). (z ++ (row_text row ++ codes "\n")) ++ more) flat
-      ∙ append_assoc (row_text row) (codes "\n") more in
+    append_assoc (row_lines row) (spelling rows) tail
+    ∙ append_assoc (row_line row) (flat_map (bind_line row.depth) row.binds) (spelling rows ++ tail)
+    ∙ ap (λ (z : List ℕ). (z ++ (row_text row ++ codes "\n")) ++ more) flat
+    ∙ append_assoc (row_text row) (codes "\n") more in
     let free : list_all no_line_feed (row_text row) ≡ true = ap (λ (z : List ℕ). list_all no_line_feed (z ++ row_text row)) (sym flat) ∙ row-free row parts in
     let (same, rest) = again-head 1 row rows h.fresh in
     let few = h.few in
     let count = count-cons row rows in
     let there = rows-reached rows tail (1 + length row.binds) [] row p.1 (let d = first.depth in omega (arith, d)) (and-right (is_typed row) _ h.typed) (and-right (is_spelled row) _ h.spelled) rest
-        (and-right (not (is_taken row.id [])) _ h.ids) (omega (arith, few)) (λ d below few. absurd (let flat2 = first.depth in omega (arith, below, few, flat2))) in
+    (and-right (not (is_taken row.id [])) _ h.ids) (omega (arith, few)) (λ d below few. absurd (let flat2 = first.depth in omega (arith, below, few, flat2))) in
     record {
       next = there.next;
       is = there.is;
       deep = there.deep;
       read = ap tree_of text
-        ∙ sym (first-read (row_text row ++ (10 ∷ more)) (row_text row) more (new_of row) (cut-again (row_text row) more free) (first-again row parts first.screen))
-        ∙ ap (λ (d : ℕ). rows_behind (pieces 10 more) 1 (record { before = []; last = placed (new_of row) 1 d })) (sym first.depth)
-        ∙ binds-again row.binds (spelling rows ++ tail) 1 [] (placed (new_of row) 1 row.depth) parts.binds_spelled parts.binds_typed
-        ∙ ap (λ (z : Row). rows_behind (pieces 10 (spelling rows ++ tail)) (1 + length row.binds) (record { before = []; last = z })) (row-whole 1 row same)
-        ∙ there.read
-        ∙ ap (λ (n : ℕ). rows_behind (pieces 10 tail) n there.next) (omega (arith, count));
+          ∙ sym (first-read (row_text row ++ (10 ∷ more)) (row_text row) more (new_of row) (cut-again (row_text row) more free) (first-again row parts first.screen))
+          ∙ ap (λ (d : ℕ). rows_behind (pieces 10 more) 1 (record { before = []; last = placed (new_of row) 1 d })) (sym first.depth)
+          ∙ binds-again row.binds (spelling rows ++ tail) 1 [] (placed (new_of row) 1 row.depth) parts.binds_spelled parts.binds_typed
+          ∙ ap (λ (z : Row). rows_behind (pieces 10 (spelling rows ++ tail)) (1 + length row.binds) (record { before = []; last = z })) (row-whole 1 row same)
+          ∙ there.read
+          ∙ ap (λ (n : ℕ). rows_behind (pieces 10 tail) n there.next) (omega (arith, count));
     }
 
 pub file-again : (rows : List Row) → IsBegun rows → IsPreorder rows → tree_of (spelling rows) ≡ Ok rows
@@ -704,24 +705,24 @@ bounded (suc m) rows once range = by (nat_lt 0 (count_of (suc m) rows)) refl (λ
     by false e less same =
         let none = ltb-false 0 (count_of (suc m) rows) e in
         let few = same once (λ n h.
-          let (least, most) = range n h in
-          let other : n ≢ suc m = λ here. (let f = ap (λ (k : ℕ). count_of k rows) here in absurd (omega (arith, f, none, h))) in
-          (least, omega (arith, most, other))) in
+        let (least, most) = range n h in
+        let other : n ≢ suc m = λ here. (let f = ap (λ (k : ℕ). count_of k rows) here in absurd (omega (arith, f, none, h))) in
+        (least, omega (arith, most, other))) in
         omega (arith, few)
     by true e less same =
         let (front, row, back, is, at) = counted-row (suc m) rows (ltb-true 0 (count_of (suc m) rows) e) in
         let own : has_number (suc m) row ≡ true = (Decides-eqb row.node.0 (suc m)).1 at in
         let few = less front back
-          (λ n. let a = once n in let b = without-row n rows front row back is in omega (arith, a, b))
-          (λ n h.
-            let b = without-row n rows front row back is in
-            let (least, most) = range n (omega (arith, b, h)) in
-            let other : n ≢ suc m = λ here.
-              (let one = once (suc m) in
-                let whole = without-row (suc m) rows front row back is ∙ ap (λ (x : Bool). cond {A = ℕ} x 1 0 + count_of (suc m) (front ++ back)) own in
-                let there = ap (λ (k : ℕ). count_of k (front ++ back)) here in
-                absurd (omega (arith, one, whole, there, h))) in
-            (least, omega (arith, most, other))) in
+        (λ n. let a = once n in let b = without-row n rows front row back is in omega (arith, a, b))
+        (λ n h.
+        let b = without-row n rows front row back is in
+        let (least, most) = range n (omega (arith, b, h)) in
+        let other : n ≢ suc m = λ here.
+        (let one = once (suc m) in
+        let whole = without-row (suc m) rows front row back is ∙ ap (λ (x : Bool). cond {A = ℕ} x 1 0 + count_of (suc m) (front ++ back)) own in
+        let there = ap (λ (k : ℕ). count_of k (front ++ back)) here in
+        absurd (omega (arith, one, whole, there, h))) in
+        (least, omega (arith, most, other))) in
         let all = ap length is ∙ length-append front (row ∷ back) in
         let rest = length-append front back in
         omega (arith, few, all, rest)

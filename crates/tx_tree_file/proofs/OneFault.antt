@@ -1,76 +1,35 @@
 -- There is one first fault.
-use Rattle.std.proofs.Common.{◌≡◌, ℕ, zero, suc, ◌+◌, ◌-◌, ◌*◌, ◌/◌, ◌%◌, ◌<◌, ◌≤◌, ◌==◌, ◌&&◌, ◌||◌, Bool, true, false, cond, not, nat_le, List, [], ◌∷◌, ◌++◌, length, drop, replicate, flat_map, fold, sum_by, Option, Some, None, Result, Ok, Err, refl, ap, ap₂, sym, subst, subst₂, ◌∙◌, arith, append_assoc, append-nil, length-append, ◌≢◌, ◌⊎◌, inl, inr, ⊎_elim, codes, add-one}
+use Rattle.std.proofs.Common.{◌≡◌, ℕ, ◌+◌, ◌/◌, ◌≤◌, ◌==◌, Bool, true, false, cond, not, List, [], ◌∷◌, ◌++◌, length, Option, Some, None, Result, Ok, Err, refl, ap, sym, subst, ◌∙◌, arith, append-nil, ◌≢◌, ◌⊎◌, inl, inr}
 use Rattle.std.specs.List.{list_all}
-use Rattle.std.specs.Option.{option_map_or}
-use Rattle.std.specs.Str.{is_utf8}
-use Rattle.std.proofs.lemmas.Bool.{false≢true, eqb-true, ne_eqb}
-use Rattle.std.proofs.lemmas.Grind.{flat_map-append}
+use Rattle.std.proofs.lemmas.Bool.{false≢true, ne_eqb}
 use Rattle.tx_read.specs.Pieces.{pieces, onto}
 use Rattle.tx_tree.proofs.NameBytes.{and-left, and-right}
-use Rattle.tx_tree.specs.Kind.{is_screen, holds_children}
+use Rattle.tx_tree.specs.Kind.{is_screen}
 use Rattle.tx_tree.specs.Mount.{is_taken}
 use Rattle.tx_tree.specs.Row.{placed}
-use Rattle.tx_tree.specs.Rows.{last_above}
-use Rattle.tx_tree.specs.Name.{is_name}
-use Rattle.tx_tree.specs.Spelled.{is_spelled, key_is_spelled, no_line_feed, byte_is_spelled, no_repeats, kind_is_spelled, private_is_spelled}
-use Rattle.tx_tree.specs.WellFormed.{MayFollow, MayAllFollow, IsFirst, IsPreorder}
-use Rattle.tx_tree.specs.TreeValue.{TreeValue}
+use Rattle.tx_tree.specs.Spelled.{key_is_spelled, no_line_feed}
 use Rattle.tx_tree.specs.declared.bind.Bind.{Bind}
-use Rattle.tx_tree.specs.declared.fault.TreeFault.{TreeFault}
-use Rattle.tx_tree.specs.declared.fault.TreeFault.TheVariants.{Grammar, NoNode, DuplicateId as DuplicateId', TooMany as TooMany', TooDeep as TooDeep', Root, Leaf as Leaf', NotSiblings, NoMemory}
 use Rattle.tx_tree.specs.declared.fault.TreeKind.{TreeKind}
 use Rattle.tx_tree.specs.declared.fault.TreeKind.TheVariants.{BadByte, BadIndent, TooDeep, Expected, Leaf, TooMany, DuplicateId}
 use Rattle.tx_tree.specs.declared.row.NewRow.{NewRow}
 use Rattle.tx_tree.specs.declared.row.Row.{Row}
-use Rattle.tx_tree_file.proofs.FoundLines.{IsRowText, row-found, IsBindText, bind-found, all-behind}
-use Rattle.tx_tree_file.proofs.FoundParts.{both}
-use Rattle.tx_tree_file.proofs.Fronts.{same-byte, some-same, none-some}
-use Rattle.tx_tree_file.proofs.Growing.{above_front, all-snoc}
-use Rattle.tx_tree_file.proofs.LastRows.{ok-same, err-ok, ifs, ended-inv, item-inv, is_bind, is_widget, IsItem, IsRowItem, row_item-inv, other_than, some_piece}
-use Rattle.tx_tree_file.proofs.Repeats.{not_true}
-use Rattle.tx_tree_file.specs.FirstFault.{ids_differ, is_held, line_count, IsPreorderOrNone, IsBegun, last_row, SpellsRow, SpellsBind, IsIndented, IsPlaced, IsRowLine, IsNothing, Breaks, is_line_end, is_ended, IsFirstFault, IsFaultOf}
-use Rattle.tx_tree_file.proofs.AgainLines.{encode-all, row-utf8, HasParts, has-parts, row-begins, blanks-again, row-again, row_line-again, bind_line-again, new_of, BeginsOther}
+use Rattle.tx_tree_file.proofs.FoundLines.{row-found, bind-found}
+use Rattle.tx_tree_file.proofs.Fronts.{same-byte}
+use Rattle.tx_tree_file.proofs.LastRows.{ifs, item-inv, is_bind, is_widget, other_than}
+use Rattle.tx_tree_file.specs.FirstFault.{is_held, line_count, IsBegun, last_row, SpellsRow, IsPlaced, IsRowLine, IsNothing, Breaks, is_line_end, is_ended, IsFirstFault}
+use Rattle.tx_tree_file.proofs.AgainLines.{has-parts, row-begins, row_line-again, new_of}
 use Rattle.tx_tree_file.proofs.LastRows.{stands-inv}
-use Rattle.tx_tree_file.proofs.Whole.{Stands, ends-preorder, ids-snoc, again-snoc, blanks_split, indented, with_new-inv, IsAllowed, IsNext, next-found, IsFirstItem, first-inv, first-stands, first-text, first-read, joined, joined-pieces, pieces-whole, or-inv, count-last}
-use Rattle.tx_tree_file.specs.Indent.{may_indent, is_too_deep, starts_bind, blanks, past_blanks, is_bind_line, may_stand}
-use Rattle.tx_tree_file.specs.Spelling.{indent, row_text, row_line, bind_text, bind_line, row_lines, spelling}
-use Rattle.tx_tree_file.specs.TreeFile.{is_typed, bind_is_typed, kind_is_typed, id_is_typed, kept, read_row, read_again, IsReading}
-use Rattle.tx_tree_file.specs.TreeReading.{Begun, LineFault, screen, first_item, with_first, first_line, binding, widget, bind_item, row_item, item_of, row_of, bind_of, with_bind, with_new, with_item, next_line, or_fault, is_empty, rows_behind, rows_so_far, rows_of_lines, tree_of, Tells, FaultIs, Reads, GivesRows}
+use Rattle.tx_tree_file.proofs.Whole.{indented}
+use Rattle.tx_tree_file.specs.Indent.{may_indent, starts_bind, blanks, past_blanks, is_bind_line, may_stand}
+use Rattle.tx_tree_file.specs.Spelling.{indent, row_text, bind_text, spelling}
+use Rattle.tx_tree_file.specs.TreeFile.{bind_is_typed}
+use Rattle.tx_tree_file.specs.TreeReading.{Begun, screen, first_item, with_first, widget, bind_item, row_item, item_of, row_of, bind_of, with_new, with_item, next_line, or_fault, is_empty, rows_behind, rows_so_far, rows_of_lines, tree_of}
 use Rattle.tx_tree_file.specs.declared.line.Item.{Item}
 use Rattle.tx_tree_file.specs.declared.line.Item.TheVariants.{Binding, Widget}
-
-
-use Rattle.std.specs.Char.{is_ascii_digit}
-use Rattle.std.specs.List.{list_any}
-use Rattle.std.specs.Option.{option_eq}
-use Rattle.std.proofs.Common.{nat_lt, decimal, bytes_eq, map, filter, option_and_then, encode_utf8}
-use Rattle.std.proofs.lemmas.Bool.{leb-true, leb-false, ltb-true}
-use Rattle.std.proofs.lemmas.Bool.Decides.{nat_tests, Decides-eqb}
-use Rattle.std.proofs.lemmas.Str.{is_utf8-from_IsUtf8}
-use Rattle.tx_tree.proofs.Ids.{id_from_test, test_from_id}
-use Rattle.tx_tree.proofs.RowLists.{count_of-append, row_at-skip}
-use Rattle.tx_tree.specs.Kind.{kind_name}
-use Rattle.tx_tree.specs.Name.{begins_name, continues_name}
-use Rattle.tx_tree.specs.Rows.{row_at, count_of, has_id}
-use Rattle.tx_tree.specs.Row.{has_number}
-use Rattle.tx_tree.specs.WellFormed.{IsTree, id_of}
-use Rattle.tx_tree.specs.declared.bind.Action.{Action}
-use Rattle.tx_tree.specs.declared.bind.Action.TheVariants.{FocusNext, FocusPrevious, ToggleDark, ToggleClass, Scroll}
-use Rattle.tx_tree.specs.declared.bind.Jump.TheVariants.{Up as JumpUp, Down as JumpDown, Home as JumpHome, End as JumpEnd, PageUp as JumpPageUp, PageDown as JumpPageDown}
-use Rattle.tx_tree.specs.declared.bind.Key.{Key}
-use Rattle.tx_tree.specs.declared.bind.Key.TheVariants.{Char, Enter, Escape, Tab, ShiftTab, Backspace, Delete, Up, Down, Left, Right, Home, End, PageUp, PageDown, Function, Ctrl}
-use Rattle.tx_tree.specs.declared.kind.Kind.{Kind}
-use Rattle.tx_tree.specs.declared.kind.Kind.TheVariants.{Screen, Container, Vertical, Horizontal, Grid, VerticalScroll, Static, Label, Button, Checkbox, Input, OptionList, ProgressBar, Header, Footer, Handed}
-use Rattle.tx_tree.specs.declared.kind.Private.{Private}
-use Rattle.tx_tree.specs.declared.kind.Private.TheVariants.{Plain, Cursor, On, Chosen, Bar}
-use Rattle.tx_tree_file.proofs.AgainParts.{decimal-digits, not_inv}
-use Rattle.tx_tree_file.proofs.Faults.{ok-err, preorder-some}
-use Rattle.tx_tree_file.proofs.LastRows.{bind_line_read, row_line_read, one_bind_more}
-use Rattle.tx_tree_file.specs.Sections.{with_binds}
-use Rattle.tx_tree_file.specs.Spelling.{id_part, class_part, class_parts, disabled_part, private_part, escaped, text_part, inline_part, key_name, action_name, priority_part}
-use Rattle.tx_tree_file.specs.TreeFile.{action_is_typed, key_is_typed}
+use Rattle.std.proofs.lemmas.Bool.Decides.{Decides-eqb}
+use Rattle.tx_tree_file.proofs.AgainParts.{not_inv}
 use Rattle.tx_tree_file.proofs.LastRows.{is_bind, is_widget}
-use Rattle.tx_tree_file.proofs.AgainFile.{cut-again, IsReached, file-reached}
+use Rattle.tx_tree_file.proofs.AgainFile.{cut-again, file-reached}
 use Rattle.tx_tree_file.proofs.Faults.{spelled-blanks, last-snoc, some_rows, row_line-of, bind_item-err, widget-err, screen-err}
 use Rattle.tx_tree_file.proofs.LastRows.{more_lines}
 use Rattle.tx_tree_file.proofs.Whole.{first-cut, screen-inv, bind_stands-inv}
@@ -141,6 +100,7 @@ placed-item begun rows line ended is h =
   where
     rest : Result Item TreeKind
     rest = cond ended (widget (blanks line / 2) (row_of (past_blanks line))) (Err Expected)
+
     by : (b : Bool) → cond b false (blanks line == 128) ≡ false
         → cond b (bind_item (past_blanks line) ended) (cond (blanks line == 128) (Err TooDeep) rest) ≡ cond b (bind_item (past_blanks line) ended) rest
     by true e = refl
@@ -186,13 +146,13 @@ breaks-again : (begun : Begun) (rows : List Row) (line : List ℕ) (ended : Bool
 breaks-again begun rows line ended BadByte is deep whole h = ap (with_item begun) (ap (λ (b : Bool). cond (not b) (Err BadByte) (cond (not (may_stand begun.last.depth (is_bind_line line) (blanks line))) (Err BadIndent) (cond (is_bind_line line) (bind_item (past_blanks line) ended) (row_item (blanks line) (past_blanks line) ended)))) h)
 breaks-again begun rows line ended BadIndent is deep whole h =
     ap (with_item begun) (
-      ap (λ (b : Bool). cond (not b) (Err BadByte) (cond (not (may_stand begun.last.depth (is_bind_line line) (blanks line))) (Err BadIndent) (cond (is_bind_line line) (bind_item (past_blanks line) ended) (row_item (blanks line) (past_blanks line) ended)))) h.0
-      ∙ ap (λ (b : Bool). cond (not b) (Err BadIndent) (cond (is_bind_line line) (bind_item (past_blanks line) ended) (row_item (blanks line) (past_blanks line) ended))) (indent-inv begun rows line is false h.1))
+    ap (λ (b : Bool). cond (not b) (Err BadByte) (cond (not (may_stand begun.last.depth (is_bind_line line) (blanks line))) (Err BadIndent) (cond (is_bind_line line) (bind_item (past_blanks line) ended) (row_item (blanks line) (past_blanks line) ended)))) h.0
+    ∙ ap (λ (b : Bool). cond (not b) (Err BadIndent) (cond (is_bind_line line) (bind_item (past_blanks line) ended) (row_item (blanks line) (past_blanks line) ended))) (indent-inv begun rows line is false h.1))
 breaks-again begun rows line ended TooDeep is deep whole h =
     ap (with_item begun) (
-      ap (λ (b : Bool). cond (not b) (Err BadByte) (cond (not (may_stand begun.last.depth (is_bind_line line) (blanks line))) (Err BadIndent) (cond (is_bind_line line) (bind_item (past_blanks line) ended) (row_item (blanks line) (past_blanks line) ended)))) h.0.utf8
-      ∙ ap (λ (b : Bool). cond (not b) (Err BadIndent) (cond (is_bind_line line) (bind_item (past_blanks line) ended) (row_item (blanks line) (past_blanks line) ended))) (indent-inv begun rows line is true h.0.indent)
-      ∙ by (is_bind_line line) (blanks line == 128) h.1)
+    ap (λ (b : Bool). cond (not b) (Err BadByte) (cond (not (may_stand begun.last.depth (is_bind_line line) (blanks line))) (Err BadIndent) (cond (is_bind_line line) (bind_item (past_blanks line) ended) (row_item (blanks line) (past_blanks line) ended)))) h.0.utf8
+    ∙ ap (λ (b : Bool). cond (not b) (Err BadIndent) (cond (is_bind_line line) (bind_item (past_blanks line) ended) (row_item (blanks line) (past_blanks line) ended))) (indent-inv begun rows line is true h.0.indent)
+    ∙ by (is_bind_line line) (blanks line == 128) h.1)
   where
     by : (b f : Bool) → cond b false f ≡ true → cond b (bind_item (past_blanks line) ended) (cond f (Err TooDeep) (cond ended (widget (blanks line / 2) (row_of (past_blanks line))) (Err Expected))) ≡ Err TooDeep
     by true f g = absurd (false≢true g)
@@ -232,6 +192,7 @@ first-breaks-again line ended Expected whole (h, why) =
     at : (r : Result NewRow TreeKind) → screen (row_of line) ≡ r → IsNothing [] line → screen (row_of line) ≡ Err Expected
     at (Err kind) e none = e ∙ ap Err (screen-err (row_of line) kind e)
     at (Ok new) e none = let (row, is) = screen-inv (row_of line) new e in absurd (none.no_row (placed new 0 0) (spells-screen line new whole row is))
+
     by : (b : Bool) → (b ≡ false) ⊎ IsNothing [] line → cond b (screen (row_of line)) (Err Expected) ≡ Err Expected
     by false w = refl
     by true (inl w) = absurd (false≢true (sym w))
@@ -256,6 +217,7 @@ fault-once bytes number kind h =
   where
     line : List ℕ
     line = h.line
+
     by : (rows : List Row) (after : List ℕ) → IsBegun rows → is_line_end after ≡ true → (rows ≡ []) ⊎ (line ++ after ≢ []) → Breaks rows line (is_ended after) kind
         → tree_of (spelling rows ++ (line ++ after)) ≡ Err (record { line = line_count rows + 1; kind = kind })
     by [] [] begun ends more broken =

@@ -1,4 +1,4 @@
-use Rattle.std.proofs.Common.{◌≡◌, ◌++◌, drop, true}
+use Rattle.std.proofs.Common.{◌≡◌, ◌++◌, drop}
 use Rattle.std.specs.List.{list_all}
 use Rattle.tx_tree.specs.Name.{is_name}
 use Rattle.tx_tree_file.specs.Spelling.{class_parts}
