@@ -221,6 +221,17 @@ fn deep_comes_out(alloc: Global, wanted: &str, last: &str, more: &str) -> Result
 }
 
 #[test]
+fn an_indent_that_is_too_far(rt: HostRuntime) -> Result<(), Fail> {
+    let alloc = rt.alloc();
+    let mut text = String::from_str(alloc, "Screen\n")?;
+    for _ in 0..128 {
+        text.push_str(" ")?;
+    }
+    text.push_str("Static\n")?;
+    comes_out(alloc, "2 BadIndent", text.as_bytes())
+}
+
+#[test]
 fn the_deepest_rows(rt: HostRuntime) -> Result<(), Fail> {
     let alloc = rt.alloc();
     deep_comes_out(alloc, "ok", "Grid", "Static\n")?;
