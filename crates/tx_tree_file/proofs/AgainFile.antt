@@ -25,7 +25,7 @@ use Rattle.tx_tree_file.proofs.LastRows.{ok-same}
 use Rattle.tx_tree_file.specs.FirstFault.{line_count, ids_differ, is_held, IsBegun}
 use Rattle.tx_tree_file.proofs.AgainLines.{encode-all, row-utf8, HasParts, has-parts, row-begins, blanks-again, row-again, row_line-again, bind_line-again, new_of}
 use Rattle.tx_tree_file.proofs.Whole.{first-read}
-use Rattle.tx_tree_file.specs.Indent.{blanks}
+use Rattle.tx_tree_file.specs.Indent.{blanks, is_bind_line, starts_bind}
 use Rattle.tx_tree_file.specs.Spelling.{indent, row_text, row_line, bind_text, bind_line, row_lines, spelling}
 use Rattle.tx_tree_file.specs.TreeFile.{is_typed, bind_is_typed, kind_is_typed, id_is_typed, kept, read_row, read_again, IsReading}
 use Rattle.tx_tree_file.specs.TreeReading.{rows_so_far, Begun, LineFault, screen, first_item, row_of, with_bind, with_new, or_fault, rows_behind, tree_of, Reads, GivesRows}
@@ -399,7 +399,9 @@ first-again : (row : Row) → HasParts row → is_screen row.kind ≡ true → f
 first-again row h screen_is =
     let utf8 = is_utf8-from_IsUtf8 (row_text row) (row-utf8 row h) in
     let (count, past) = blanks-again 0 (row_text row) (row-begins row h.kind_spelled).0 in
-    ap (λ (b : Bool). cond (not b) (Err BadByte) (cond (not (blanks (row_text row) == 0)) (Err BadIndent) (screen (row_of (row_text row))))) utf8
+    let no_bind : is_bind_line (row_text row) ≡ false = ap starts_bind past ∙ (row-begins row h.kind_spelled).1 in
+    ap (λ (b : Bool). cond (not b) (Err BadByte) (cond (is_bind_line (row_text row)) (Err Expected) (cond (not (blanks (row_text row) == 0)) (Err BadIndent) (screen (row_of (row_text row)))))) utf8
+    ∙ ap (λ (b : Bool). cond b (Err Expected) (cond (not (blanks (row_text row) == 0)) (Err BadIndent) (screen (row_of (row_text row))))) no_bind
     ∙ ap (λ (n : ℕ). cond (not (n == 0)) (Err BadIndent) (screen (row_of (row_text row)))) count
     ∙ ap screen (row-again row h)
     ∙ ap (λ (b : Bool). cond b (Ok (new_of row)) (Err Expected)) screen_is

@@ -264,6 +264,18 @@ first-nothing line none is = record {
   no_bind = λ bind h. none-some h.behind;
 }
 
+-- a binding in the first line
+bind-nothing : (line : List ℕ) → is_bind_line line ≡ true → IsNothing [] line
+bind-nothing line is = record {
+  no_row = λ row h.
+      let parts = has-parts row h.typed h.spelled in
+      let (begins, no_bind) = row-begins row parts.kind_spelled in
+      let (count, past) = spelled-blanks row.depth line (row_text row) begins h.text in
+      let is_row : is_bind_line line ≡ false = ap starts_bind past ∙ no_bind in
+      absurd (false≢true (sym is_row ∙ is));
+  no_bind = λ bind h. none-some h.behind;
+}
+
 pub screen-err : (o : Option NewRow) (kind : TreeKind) → screen o ≡ Err kind → kind ≡ Expected
 screen-err None kind h = sym (err-same h)
 screen-err (Some new) kind h = by (is_screen new.kind) h
@@ -273,29 +285,35 @@ screen-err (Some new) kind h = by (is_screen new.kind) h
     by false g = sym (err-same g)
 
 first-breaks : (line : List ℕ) (ended : Bool) (kind : TreeKind) → first_item line ended ≡ Err kind → Breaks [] line ended kind
-first-breaks line ended kind h = by (is_utf8 line) (blanks line == 0) ended refl refl refl h
+first-breaks line ended kind h = by (is_utf8 line) (is_bind_line line) (blanks line == 0) ended refl refl refl refl h
   where
     at : TreeKind → Type 0
     at k = Breaks [] line ended k
 
-    place : is_utf8 line ≡ true → (blanks line == 0) ≡ true → IsPlaced [] line
-    place u m = record {
-      indented = record { utf8 = u; indent = m };
-      shallow = by_bind (is_bind_line line) (ap (λ (n : ℕ). n == 128) (same-byte (blanks line) 0 m));
-    }
-      where
-        by_bind : (b : Bool) → (blanks line == 128) ≡ false → cond b false (blanks line == 128) ≡ false
-        by_bind true e = refl
-        by_bind false e = e
+    indent_is : (b m : Bool) → is_bind_line line ≡ b → (blanks line == 0) ≡ m → may_indent None line ≡ cond b true m
+    indent_is b m eb em = ap (λ (x : Bool). cond x true (blanks line == 0)) eb ∙ ap (λ (x : Bool). cond b true x) em
 
-    by : (u m e : Bool) → is_utf8 line ≡ u → (blanks line == 0) ≡ m → ended ≡ e
-        → cond (not u) (Err BadByte) (cond (not m) (Err BadIndent) (cond e (screen (row_of line)) (Err Expected))) ≡ Err kind → at kind
-    by false m e eu em ee g = subst at (err-same g) eu
-    by true false e eu em ee g = subst at (err-same g) (eu, em)
-    by true true false eu em ee g = subst at (err-same g) (place eu em, inl ee)
-    by true true true eu em ee g =
+    place : is_utf8 line ≡ true → is_bind_line line ≡ false → (blanks line == 0) ≡ true → IsPlaced [] line
+    place u eb m = record {
+      indented = record { utf8 = u; indent = indent_is false true eb m };
+      shallow = ap (λ (x : Bool). cond x false (blanks line == 128)) eb ∙ ap (λ (n : ℕ). n == 128) (same-byte (blanks line) 0 m);
+    }
+
+    bind_place : is_utf8 line ≡ true → is_bind_line line ≡ true → IsPlaced [] line
+    bind_place u eb = record {
+      indented = record { utf8 = u; indent = indent_is true (blanks line == 0) eb refl };
+      shallow = ap (λ (x : Bool). cond x false (blanks line == 128)) eb;
+    }
+
+    by : (u b m e : Bool) → is_utf8 line ≡ u → is_bind_line line ≡ b → (blanks line == 0) ≡ m → ended ≡ e
+        → cond (not u) (Err BadByte) (cond b (Err Expected) (cond (not m) (Err BadIndent) (cond e (screen (row_of line)) (Err Expected)))) ≡ Err kind → at kind
+    by false b m e eu eb em ee g = subst at (err-same g) eu
+    by true true m e eu eb em ee g = subst at (err-same g) (bind_place eu eb, inr (bind-nothing line eb))
+    by true false false e eu eb em ee g = subst at (err-same g) (eu, indent_is false false eb em)
+    by true false true false eu eb em ee g = subst at (err-same g) (place eu eb em, inl ee)
+    by true false true true eu eb em ee g =
         let k = screen-err (row_of line) kind g in
-        subst at (sym k) (place eu em, inr (first-nothing line (same-byte (blanks line) 0 em) (g ∙ ap Err k)))
+        subst at (sym k) (place eu eb em, inr (first-nothing line (same-byte (blanks line) 0 em) (g ∙ ap Err k)))
 
 first-whole : (bytes line after : List ℕ) (kind : TreeKind) → bytes ≡ line ++ after → list_all no_line_feed line ≡ true → is_line_end after ≡ true → Breaks [] line (is_ended after) kind → IsFirstFault bytes 1 kind
 first-whole bytes line after kind text whole ends broken = record {

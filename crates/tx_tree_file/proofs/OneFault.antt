@@ -20,6 +20,7 @@ use Rattle.tx_tree_file.specs.FirstFault.{is_held, line_count, IsBegun, last_row
 use Rattle.tx_tree_file.proofs.AgainLines.{has-parts, row-begins, row_line-again, new_of}
 use Rattle.tx_tree_file.proofs.LastRows.{stands-inv}
 use Rattle.tx_tree_file.proofs.Whole.{indented}
+use Rattle.std.specs.Str.{is_utf8}
 use Rattle.tx_tree_file.specs.Indent.{may_indent, starts_bind, blanks, past_blanks, is_bind_line, may_stand}
 use Rattle.tx_tree_file.specs.Spelling.{indent, row_text, bind_text, spelling}
 use Rattle.tx_tree_file.specs.TreeFile.{bind_is_typed}
@@ -169,7 +170,7 @@ breaks-again begun rows line ended DuplicateId is deep whole (row, h, held, few,
 
 -- ---- the first line
 
-flat_line : (line : List ℕ) (b : Bool) → (blanks line == 0) ≡ true → cond b false (blanks line == 128) ≡ true → ⊥
+flat_line : (line : List ℕ) (b : Bool) → cond b true (blanks line == 0) ≡ true → cond b false (blanks line == 128) ≡ true → ⊥
 flat_line line true e h = false≢true h
 flat_line line false e h = false≢true (sym (ap (λ (n : ℕ). n == 128) (same-byte (blanks line) 0 e)) ∙ h)
 
@@ -178,16 +179,23 @@ spells-screen line new whole row is =
     let text = row-found line new row in
     record { typed = text.typed; spelled = text.spelled whole; text = text.text; alone = text.alone; screen = is }
 
+-- what a line that is UTF-8 is, by whether it is a binding
+abbrev behind_utf8 : List ℕ → Bool → Bool → Result NewRow TreeKind
+behind_utf8 line ended b = cond b (Err Expected) (cond (not (blanks line == 0)) (Err BadIndent) (cond ended (screen (row_of line)) (Err Expected)))
+
+utf8_first : (line : List ℕ) (ended u : Bool) → is_utf8 line ≡ u → first_item line ended ≡ cond (not u) (Err BadByte) (behind_utf8 line ended (is_bind_line line))
+utf8_first line ended u e = ap (λ (b : Bool). cond (not b) (Err BadByte) (behind_utf8 line ended (is_bind_line line))) e
+
 first-breaks-again : (line : List ℕ) (ended : Bool) (kind : TreeKind) → list_all no_line_feed line ≡ true → Breaks [] line ended kind → first_item line ended ≡ Err kind
-first-breaks-again line ended BadByte whole h = ap (λ (b : Bool). cond (not b) (Err BadByte) (cond (not (blanks line == 0)) (Err BadIndent) (cond ended (screen (row_of line)) (Err Expected)))) h
-first-breaks-again line ended BadIndent whole h =
-    ap (λ (b : Bool). cond (not b) (Err BadByte) (cond (not (blanks line == 0)) (Err BadIndent) (cond ended (screen (row_of line)) (Err Expected)))) h.0
-    ∙ ap (λ (b : Bool). cond (not b) (Err BadIndent) (cond ended (screen (row_of line)) (Err Expected))) h.1
+first-breaks-again line ended BadByte whole h = utf8_first line ended false h
+first-breaks-again line ended BadIndent whole h = utf8_first line ended true h.0 ∙ by (is_bind_line line) refl h.1
+  where
+    by : (b : Bool) → is_bind_line line ≡ b → cond b true (blanks line == 0) ≡ false → behind_utf8 line ended b ≡ Err BadIndent
+    by true eb e = absurd (false≢true (sym e))
+    by false eb e = ap (λ (m : Bool). cond (not m) (Err BadIndent) (cond ended (screen (row_of line)) (Err Expected))) e
 first-breaks-again line ended TooDeep whole h = absurd (flat_line line (is_bind_line line) h.0.indent h.1)
 first-breaks-again line ended Expected whole (h, why) =
-    ap (λ (b : Bool). cond (not b) (Err BadByte) (cond (not (blanks line == 0)) (Err BadIndent) (cond ended (screen (row_of line)) (Err Expected)))) h.indented.utf8
-    ∙ ap (λ (b : Bool). cond (not b) (Err BadIndent) (cond ended (screen (row_of line)) (Err Expected))) h.indented.indent
-    ∙ by ended why
+    utf8_first line ended true h.indented.utf8 ∙ bound (is_bind_line line) h.indented.indent
   where
     at : (r : Result NewRow TreeKind) → screen (row_of line) ≡ r → IsNothing [] line → screen (row_of line) ≡ Err Expected
     at (Err kind) e none = e ∙ ap Err (screen-err (row_of line) kind e)
@@ -197,6 +205,10 @@ first-breaks-again line ended Expected whole (h, why) =
     by false w = refl
     by true (inl w) = absurd (false≢true (sym w))
     by true (inr none) = at (screen (row_of line)) refl none
+
+    bound : (b : Bool) → cond b true (blanks line == 0) ≡ true → behind_utf8 line ended b ≡ Err Expected
+    bound true e = refl
+    bound false e = ap (λ (m : Bool). cond (not m) (Err BadIndent) (cond ended (screen (row_of line)) (Err Expected))) e ∙ by ended why
 first-breaks-again line ended Leaf whole (row, h, held) = absurd (false≢true (sym held))
 first-breaks-again line ended TooMany whole (row, h, held, full) = absurd (omega (arith, full))
 first-breaks-again line ended DuplicateId whole (row, h, held, few, taken) = absurd (by row.id taken)

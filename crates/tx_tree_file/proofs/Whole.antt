@@ -301,7 +301,8 @@ screen-inv (Some found) new h =
 pub first-inv : (line : List ℕ) (ended : Bool) (new : NewRow) → first_item line ended ≡ Ok new → (ended ≡ true) × IsFirstItem line new
 first-inv line ended new h =
     let (utf8, h1) = ifs (not (is_utf8 line)) _ BadByte new h in
-    let (none, h2) = ifs (not (blanks line == 0)) _ BadIndent new h1 in
+    let (no_bind, h0) = ifs (is_bind_line line) _ Expected new h1 in
+    let (none, h2) = ifs (not (blanks line == 0)) _ BadIndent new h0 in
     let (whole, h3) = ended-inv ended (screen (row_of line)) Expected new h2 in
     let (row, is) = screen-inv (row_of line) new h3 in
     (whole, record { utf8 = not_true _ utf8; none = same-byte (blanks line) 0 (not_true _ none); row = row; screen = is })

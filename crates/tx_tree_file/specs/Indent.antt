@@ -32,9 +32,10 @@ abbrev pub may_stand : ℕ → Bool → ℕ → Bool
 may_stand depth true count = count == 2 * (depth + 1)
 may_stand depth false count = count % 2 == 0 && (nat_le 2 count && nat_le count (2 * (depth + 1)))
 
--- whether a line may have its indent behind this last row; the first line has none
+-- whether a line may have its indent behind this last row; the first line has none, but a binding there has no row and so
+-- no indent that would be its own
 abbrev pub may_indent : Option Row → List ℕ → Bool
-may_indent None line = blanks line == 0
+may_indent None line = if is_bind_line line then true else blanks line == 0
 may_indent (Some last) line = may_stand last.depth (is_bind_line line) (blanks line)
 
 -- whether a row line is deeper than rows may be

@@ -1,5 +1,5 @@
 -- Laws of tree files.
-use Rattle.std.specs.Prelude.{◌≡◌, ℕ, true, List, Ok, Err}
+use Rattle.std.specs.Prelude.{◌≡◌, ℕ, true, List, length, Ok, Err}
 use Rattle.std.specs.List.{list_all}
 use Rattle.tx_tree.specs.Spelled.{is_spelled}
 use Rattle.tx_tree.specs.TreeValue.{TreeValue}
@@ -8,7 +8,7 @@ use Rattle.tx_tree.specs.declared.fault.TreeKind.{TreeKind}
 use Rattle.tx_tree.specs.declared.row.Row.{Row}
 use Rattle.tx_tree_file.specs.FirstFault.{IsFirstFault}
 use Rattle.tx_tree_file.specs.Spelling.{spelling}
-use Rattle.tx_tree_file.specs.TreeFile.{is_typed, read_again}
+use Rattle.tx_tree_file.specs.TreeFile.{IsReading, is_typed, read_again}
 use Rattle.tx_tree_file.specs.TreeReading.{tree_of}
 
 -- no two texts are read as the same rows
@@ -22,6 +22,14 @@ ReadAgain =
     (tree : TreeValue) → IsTree tree → list_all is_typed tree.rows ≡ true → list_all is_spelled tree.rows ≡ true
     → tree_of (spelling tree.rows) ≡ Ok (read_again 1 tree.rows)
 
--- The first fault of a file is the one that is read of it, so there is only one.
+-- What is read of a file is the tree that it spells, and a tree that it spells is read.
+abbrev pub FilesAreRead : Type 0
+FilesAreRead = (bytes : List ℕ) (tree : TreeValue)
+    → (tree_of bytes ≡ Ok tree.rows → tree.made ≡ length tree.rows → IsReading bytes tree)
+    × (IsTree tree → IsReading bytes tree → tree_of bytes ≡ Ok tree.rows)
+
+-- What is told of a file is its first fault, and a first fault is told. So there is only one.
 abbrev pub OneFault : Type 0
-OneFault = (bytes : List ℕ) (number : ℕ) (kind : TreeKind) → IsFirstFault bytes number kind → tree_of bytes ≡ Err (record { line = number; kind = kind })
+OneFault = (bytes : List ℕ) (number : ℕ) (kind : TreeKind)
+    → (tree_of bytes ≡ Err (record { line = number; kind = kind }) → IsFirstFault bytes number kind)
+    × (IsFirstFault bytes number kind → tree_of bytes ≡ Err (record { line = number; kind = kind }))

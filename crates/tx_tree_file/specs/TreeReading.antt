@@ -77,6 +77,7 @@ screen (Some new) = if is_screen new.kind then Ok new else Err Expected
 abbrev pub first_item : List ℕ → Bool → Result NewRow TreeKind
 first_item line ended =
     if not (is_utf8 line) then Err BadByte
+    else if is_bind_line line then Err Expected
     else if not (blanks line == 0) then Err BadIndent
     else if ended then screen (row_of line)
     else Err Expected

@@ -1,6 +1,11 @@
 //! What holds of tree files, as contracts of functions that do nothing.
 
-ghost use Rattle.tx_tree_file.specs.Laws.{OneText, OneFault, ReadAgain};
+ghost use Rattle.tx_tree_file.specs.Laws.{FilesAreRead, OneText, OneFault, ReadAgain};
+
+/// A file is read exactly where it spells a tree, and as that tree.
+pub fn files_are_read()
+    ensures { FilesAreRead }
+{}
 
 /// No two texts are read as the same rows.
 pub fn one_text()
@@ -13,7 +18,7 @@ pub fn read_again()
     ensures { ReadAgain }
 {}
 
-/// A file has one first fault: the one that is read of it.
+/// What is told of a file is its first fault, and it has only one.
 pub fn one_fault()
     ensures { OneFault }
 {}

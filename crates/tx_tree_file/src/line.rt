@@ -203,7 +203,12 @@ pub fn first_item(alloc: Global, line: &[u8], ended: bool) -> Result<NewRow, Tre
     let Some(_) = as_text(line) else {
         return Err(fault(1, TreeKind::BadByte));
     };
-    if blanks(line) != 0 {
+    let count = blanks(line);
+    let (_, text) = line.split_at(count);
+    if starts_bind(text) {
+        return Err(fault(1, TreeKind::Expected));
+    }
+    if count != 0 {
         return Err(fault(1, TreeKind::BadIndent));
     }
     if !ended {

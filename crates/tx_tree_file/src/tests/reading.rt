@@ -97,7 +97,7 @@ fn each_row_comes_out(alloc: Global, table: &str) -> Result<(), Fail> {
 fn first_lines(rt: HostRuntime) -> Result<(), Fail> {
     each_comes_out(
         rt.alloc(),
-        "ok:Screen/\n1 Expected:\n1 Expected:/\n1 Expected:Screen\n1 Expected:Static/\n1 BadIndent: Screen/\n1 BadIndent:  Screen\n1 Expected:bind a focus_next/\n1 BadIndent:  bind a focus_next/\n1 Expected:Screen /\n1 Expected:screen/\n1 Expected:Screens/\nok:Screen #s .a disabled \"t\" {x}/\n1 BadByte:~/\n1 BadByte: ~\n1 BadIndent: x",
+        "ok:Screen/\n1 Expected:\n1 Expected:/\n1 Expected:Screen\n1 Expected:Static/\n1 BadIndent: Screen/\n1 BadIndent:  Screen\n1 Expected:bind a focus_next/\n1 Expected:  bind a focus_next/\n1 BadIndent:  binds a focus_next/\n1 Expected:Screen /\n1 Expected:screen/\n1 Expected:Screens/\nok:Screen #s .a disabled \"t\" {x}/\n1 BadByte:~/\n1 BadByte: ~\n1 BadIndent: x",
     )
 }
 
