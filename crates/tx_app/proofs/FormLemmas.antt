@@ -1,5 +1,5 @@
 -- What the pieces of a line say of it.
-use Rattle.std.proofs.Common.{◌≡◌, ℕ, Bool, true, false, cond, List, [], ◌∷◌, length, Option, None, Some, refl, eqb, arith, ◌<◌, zero, suc, ◌&&◌, ◌∙◌, ap, sym, Result, Ok, Err, ◌++◌, ◌+◌, ◌≤◌, nat_lt, append_assoc, codes, option_map}
+use Rattle.std.proofs.Common.{◌≡◌, ℕ, Bool, true, false, cond, List, [], ◌∷◌, length, Option, None, Some, refl, eqb, arith, ◌<◌, zero, suc, ◌&&◌, ◌∙◌, ap, sym, Result, Ok, Err, ◌++◌, ◌+◌, ◌≤◌, nat_lt, append_assoc, codes, option_map, map}
 use Rattle.tx_read.specs.Pieces.{pieces, onto}
 use Rattle.std.specs.List.{list_all, AllPass, AllByRecursion}
 use Rattle.std.proofs.lemmas.List.Sums.{AllPass-from_list_all}
@@ -10,20 +10,9 @@ use Rattle.tx_app.specs.declared.sheet_form.Declaration.{Declaration}
 use Rattle.tx_app.specs.declared.sheet_form.Look.{Look}
 use Rattle.tx_app.specs.declared.sheet_form.Looks.{Looks}
 use Rattle.tx_app.specs.SheetForm.{declaration, declarations, declared, joined, look_behind, looks_behind, ruled}
-use Rattle.tx_app.specs.TreeForm.{quoted, is_text_byte, static_text, statics, with_text, below_screen, texts_of}
-
-quoted_onto : (text : List ℕ) (byte : ℕ) (rest : List (List ℕ)) → quoted (text ∷ onto byte rest) ≡ None
-quoted_onto text byte [] = refl
-quoted_onto text byte (piece ∷ []) = refl
-quoted_onto text byte (piece ∷ next ∷ rest) = refl
-
-quoted_two : (text : List ℕ) (bytes : List ℕ) → quoted (text ∷ [] ∷ pieces 34 bytes) ≡ None
-quoted_two text [] = refl
-quoted_two text (byte ∷ bytes) = elim (eqb byte 34) as (λ b. quoted (text ∷ [] ∷ cond b ([] ∷ pieces 34 bytes) (onto byte (pieces 34 bytes))) ≡ None) [ true ↦ refl | false ↦ onto_two (pieces 34 bytes) ]
-  where
-    onto_two : (rest : List (List ℕ)) → quoted (text ∷ [] ∷ onto byte rest) ≡ None
-    onto_two [] = refl
-    onto_two (piece ∷ rest) = refl
+use Rattle.tx_tree.specs.Row.{plain}
+use Rattle.tx_tree.specs.declared.row.Row.{Row}
+use Rattle.tx_app.specs.TreeForm.{is_text_byte, is_empty, is_bare, static_text, statics, with_text, below_screen}
 
 and_true_left : (a b : Bool) → a && b ≡ true → a ≡ true
 and_true_left true b h = refl
@@ -33,98 +22,36 @@ and_true_right : (a b : Bool) → a && b ≡ true → b ≡ true
 and_true_right true b h = h
 and_true_right false b h = absurd (cc)
 
--- something stands behind the last quote
-pub quoted_behind : (text rest : List ℕ) → (length rest ≡ 0 → ⊥) → quoted (text ∷ pieces 34 rest) ≡ None
-quoted_behind text [] some = absurd (some refl)
-quoted_behind text (byte ∷ bytes) some = elim (eqb byte 34) as (λ b. quoted (text ∷ cond b ([] ∷ pieces 34 bytes) (onto byte (pieces 34 bytes))) ≡ None) [ true ↦ quoted_two text bytes | false ↦ quoted_onto text byte (pieces 34 bytes) ]
-
--- a byte of a text is ASCII
-text_byte_is_ascii : (byte : ℕ) → is_text_byte byte ≡ true → byte < 128
-text_byte_is_ascii byte h = grind (arith, nat_tests)
-
-pub IsAscii-from_text : (text : List ℕ) → list_all is_text_byte text ≡ true → IsAscii text
-IsAscii-from_text [] h i = omega arith
-IsAscii-from_text (byte ∷ text) h zero = text_byte_is_ascii byte (and_true_left _ _ h)
-IsAscii-from_text (byte ∷ text) h (suc i) = IsAscii-from_text text (and_true_right _ _ h) i
-
--- ---- lines of a tree
+-- ---- rows of a tree
 
 -- the texts that were found, and then the others
 abbrev pub in_front : List (List ℕ) → Result (List (List ℕ)) ℕ → Result (List (List ℕ)) ℕ
 in_front found (Ok texts) = Ok (found ++ texts)
 in_front found (Err line) = Err line
 
--- there are pieces behind a line
-statics_onto : (number : ℕ) (line : List ℕ) (byte : ℕ) (rest : List (List ℕ))
-    → statics number (line ∷ onto byte rest) ≡ cond (nat_lt 65536 number) (Err number) (with_text number (static_text line) (statics (number + 1) (onto byte rest)))
-statics_onto number line byte [] = refl
-statics_onto number line byte (piece ∷ rest) = refl
-
-pub statics_line : (number : ℕ) (line bytes : List ℕ)
-    → statics number (line ∷ pieces 10 bytes) ≡ cond (nat_lt 65536 number) (Err number) (with_text number (static_text line) (statics (number + 1) (pieces 10 bytes)))
-statics_line number line [] = refl
-statics_line number line (byte ∷ bytes) =
-    elim (eqb byte 10) as (λ b. let rest : List (List ℕ) = cond b ([] ∷ pieces 10 bytes) (onto byte (pieces 10 bytes)) in
-    statics number (line ∷ rest) ≡ cond (nat_lt 65536 number) (Err number) (with_text number (static_text line) (statics (number + 1) rest)))
-    [ true ↦ refl | false ↦ statics_onto number line byte (pieces 10 bytes) ]
-
 in_front-append : (found : List (List ℕ)) (text : List ℕ) (number : ℕ) (below : Result (List (List ℕ)) ℕ) → in_front (found ++ text ∷ []) below ≡ in_front found (with_text number (Some text) below)
 in_front-append found text number (Ok texts) = ap Ok (append_assoc found (text ∷ []) texts)
 in_front-append found text number (Err line) = refl
 
-not_past : (number : ℕ) → number ≤ 65536 → nat_lt 65536 number ≡ false
-not_past number h = grind (arith, nat_tests)
+-- one more row was read
+pub statics_more : (found : List (List ℕ)) (number : ℕ) (row : Row) (rows : List Row) (text : List ℕ) (all : Result (List (List ℕ)) ℕ)
+    → static_text row ≡ Some text → in_front found (statics number (row ∷ rows)) ≡ all → in_front (found ++ text ∷ []) (statics (number + 1) rows) ≡ all
+statics_more found number row rows text all reads so_far =
+    in_front-append found text number (statics (number + 1) rows) ∙ ap (λ t. in_front found (with_text number t (statics (number + 1) rows))) (sym reads) ∙ so_far
 
-is_past : (number : ℕ) → 65536 < number → nat_lt 65536 number ≡ true
-is_past number h = grind (arith, nat_tests)
+-- a row outside the form
+pub statics_bad : (found : List (List ℕ)) (number : ℕ) (row : Row) (rows : List Row) (all : Result (List (List ℕ)) ℕ)
+    → static_text row ≡ None → in_front found (statics number (row ∷ rows)) ≡ all → all ≡ Err number
+statics_bad found number row rows all bad so_far = sym so_far ∙ ap (λ t. in_front found (with_text number t (statics (number + 1) rows))) bad
 
--- one more line was read
-pub statics_more : (found : List (List ℕ)) (number : ℕ) (line below text : List ℕ) (rest : List (List ℕ)) (all : Result (List (List ℕ)) ℕ)
-    → rest ≡ line ∷ pieces 10 below → number ≤ 65536 → static_text line ≡ Some text
-    → in_front found (statics number rest) ≡ all
-    → in_front (found ++ text ∷ []) (statics (number + 1) (pieces 10 below)) ≡ all
-statics_more found number line below text rest all split short reads so_far =
-    in_front-append found text number (statics (number + 1) (pieces 10 below))
-    ∙ ap (in_front found) (sym (ap (statics number) split ∙ statics_line number line below
-    ∙ ap (λ b. cond b (Err number) (with_text number (static_text line) (statics (number + 1) (pieces 10 below)))) (not_past number short)
-    ∙ ap (λ t. with_text number t (statics (number + 1) (pieces 10 below))) reads))
-    ∙ so_far
+-- the room for classes is no part of the form
+statics_plain : (number : ℕ) (rows : List Row) → statics number (map plain rows) ≡ statics number rows
+statics_plain number [] = refl
+statics_plain number (row ∷ rows) = ap (with_text number (static_text row)) (statics_plain (number + 1) rows)
 
--- a line too many, or one outside the form
-pub statics_past : (found : List (List ℕ)) (number : ℕ) (line below : List ℕ) (rest : List (List ℕ)) (all : Result (List (List ℕ)) ℕ)
-    → rest ≡ line ∷ pieces 10 below → 65536 < number → in_front found (statics number rest) ≡ all → all ≡ Err number
-statics_past found number line below rest all split past so_far =
-    sym so_far ∙ ap (in_front found) (ap (statics number) split ∙ statics_line number line below
-    ∙ ap (λ b. cond b (Err number) (with_text number (static_text line) (statics (number + 1) (pieces 10 below)))) (is_past number past))
-
-pub statics_bad : (found : List (List ℕ)) (number : ℕ) (line below : List ℕ) (rest : List (List ℕ)) (all : Result (List (List ℕ)) ℕ)
-    → rest ≡ line ∷ pieces 10 below → number ≤ 65536 → static_text line ≡ None → in_front found (statics number rest) ≡ all → all ≡ Err number
-statics_bad found number line below rest all split short bad so_far =
-    sym so_far ∙ ap (in_front found) (ap (statics number) split ∙ statics_line number line below
-    ∙ ap (λ b. cond b (Err number) (with_text number (static_text line) (statics (number + 1) (pieces 10 below)))) (not_past number short)
-    ∙ ap (λ t. with_text number t (statics (number + 1) (pieces 10 below))) bad)
-
--- there are pieces behind the first line
-below_screen_onto : (first : List ℕ) (byte : ℕ) (rest : List (List ℕ)) → below_screen (first ∷ onto byte rest) ≡ cond (bytes_eq first (codes "Screen")) (statics 2 (onto byte rest)) (Err 1)
-below_screen_onto first byte [] = refl
-below_screen_onto first byte (piece ∷ rest) = refl
-
-below_screen_line : (first bytes : List ℕ) → below_screen (first ∷ pieces 10 bytes) ≡ cond (bytes_eq first (codes "Screen")) (statics 2 (pieces 10 bytes)) (Err 1)
-below_screen_line first [] = refl
-below_screen_line first (byte ∷ bytes) =
-    elim (eqb byte 10) as (λ b. let rest : List (List ℕ) = cond b ([] ∷ pieces 10 bytes) (onto byte (pieces 10 bytes)) in
-    below_screen (first ∷ rest) ≡ cond (bytes_eq first (codes "Screen")) (statics 2 rest) (Err 1))
-    [ true ↦ refl | false ↦ below_screen_onto first byte (pieces 10 bytes) ]
-
-pub is_screen_line : (bytes first rest : List ℕ) → pieces 10 bytes ≡ first ∷ pieces 10 rest → bytes_eq first (codes "Screen") ≡ true → texts_of bytes ≡ statics 2 (pieces 10 rest)
-unfolding texts_of
-is_screen_line bytes first rest split screen =
-    ap below_screen split ∙ below_screen_line first rest ∙ ap (λ b. cond b (statics 2 (pieces 10 rest)) (Err 1)) screen
-
-pub no_screen_line : (bytes first rest : List ℕ) → pieces 10 bytes ≡ first ∷ pieces 10 rest → bytes_eq first (codes "Screen") ≡ false → texts_of bytes ≡ Err 1
-unfolding texts_of
-no_screen_line bytes first rest split other =
-    ap below_screen split ∙ below_screen_line first rest ∙ ap (λ b. cond b (statics 2 (pieces 10 rest)) (Err 1)) other
+pub below_screen_plain : (rows : List Row) → below_screen (map plain rows) ≡ below_screen rows
+below_screen_plain [] = refl
+below_screen_plain (row ∷ rows) = ap (λ below. cond (is_bare row && is_empty row.text) below (Err 1)) (statics_plain 2 rows)
 
 -- ---- lines of a sheet
 

@@ -7,7 +7,7 @@ use Rattle.tx_io.specs.Faults.{raised}
 use Rattle.tx_io.specs.Loading.{FilesSeen, Load, load_of, files_seen, append_loads, failed_loads, after_loads}
 use Rattle.tx_io.specs.Store.{Answer, LoadGives}
 use Rattle.tx_app.specs.Words.{Show, asked}
-use Rattle.tx_app.specs.TreeForm.{texts_of}
+use Rattle.tx_app.specs.TreeForm.{Fault, texts_of, unbuilt}
 use Rattle.tx_app.specs.Scene.{Scene}
 use Rattle.tx_app.specs.Run.{IsOfFiles, file_limit, sheet_loads, loads_behind, loads_of, opening_of, show_opening, sheet_opening, in_form}
 use Rattle.tx_app.specs.Opening.{GivesLoaded, GivesScene, GivesTexts, Loads, OpensSheet, OpensTexts, OpensTree, OpensWords}
@@ -62,7 +62,7 @@ none_behind : (show : Show) (tree : Answer) → loads_behind show tree None ≡ 
 none_behind show (Err fault) = refl
 none_behind show (Ok bytes) = of (texts_of bytes)
   where
-    of : (texts : Result (List (List ℕ)) ℕ) → sheet_loads show.sheet None texts ≡ []
+    of : (texts : Result (List (List ℕ)) Fault) → sheet_loads show.sheet None texts ≡ []
     of (Ok texts) = refl
     of (Err line) = refl
 

@@ -9,7 +9,7 @@ use Rattle.tx_io.specs.Loading.{FilesSeen, failed_loads, after_loads}
 use Rattle.tx_io.specs.Sending.{SinkSeen, failed_puts}
 use Rattle.tx_io.specs.Store.{Answer, LoadGives}
 use Rattle.tx_app.specs.Words.{Show, asked}
-use Rattle.tx_app.specs.TreeForm.{texts_of}
+use Rattle.tx_app.specs.TreeForm.{Fault, texts_of, unbuilt}
 use Rattle.tx_app.specs.SheetForm.{looks_of}
 use Rattle.tx_app.specs.Scene.{Scene, first_misfit}
 use Rattle.tx_app.specs.Run.{Reading, Opening, Stops, Opens, Refreshing, Unmade, Made, Course, IsCourse, IsShown, IsOfFiles, opening_of, show_opening, sheet_opening, sheet_loads, loads_of, bytes_of, faults_of, entry_of, cause_of, end_cause, sink_cause, unsent, file_limit, loaded, in_form, fitted}
@@ -82,7 +82,7 @@ abbrev read_failures : Opening → ℕ
 read_failures (Stops (ReadFault rose)) = rose
 read_failures _ = 0
 
-looks-failures : (show : Show) (texts : List (List ℕ)) (found : Result Looks ℕ)
+looks-failures : (show : Show) (texts : List (List ℕ)) (found : Result Looks Fault)
     → read_failures (in_form show.sheet found (λ looks. fitted show texts looks (first_misfit show.size looks.statics.height 1 texts))) ≡ 0
 looks-failures show texts (Err line) = refl
 looks-failures show texts (Ok looks) = of (first_misfit show.size looks.statics.height 1 texts)
@@ -91,7 +91,7 @@ looks-failures show texts (Ok looks) = of (first_misfit show.size looks.statics.
     of None = refl
     of (Some i) = refl
 
-texts-failures : (show : Show) (sheet : Option Answer) (found : Result (List (List ℕ)) ℕ)
+texts-failures : (show : Show) (sheet : Option Answer) (found : Result (List (List ℕ)) Fault)
     → failed_loads (sheet_loads show.sheet sheet found) ≡ read_failures (in_form show.tree found (λ texts. sheet_opening show texts sheet))
 texts-failures show sheet (Err line) = no_load sheet
   where
@@ -99,7 +99,7 @@ texts-failures show sheet (Err line) = no_load sheet
     no_load None = refl
     no_load (Some answer) = refl
 texts-failures show None (Ok texts) = refl
-texts-failures show (Some (Ok bytes)) (Ok texts) = sym (looks-failures show texts (looks_of bytes))
+texts-failures show (Some (Ok bytes)) (Ok texts) = sym (looks-failures show texts (unbuilt (looks_of bytes)))
 texts-failures show (Some (Err Failed)) (Ok texts) = refl
 texts-failures show (Some (Err PastLimit)) (Ok texts) = refl
 texts-failures show (Some (Err NoRoom)) (Ok texts) = refl
@@ -132,7 +132,7 @@ loaded-of_reading name (Err Failed) next rest = refl
 loaded-of_reading name (Err PastLimit) next rest = tt
 loaded-of_reading name (Err NoRoom) next rest = tt
 
-in_form-of_reading : {A : Type 0} (name : List ℕ) (found : Result A ℕ) (next : A → Opening) → ((value : A) → OfReading (next value)) → OfReading (in_form name found next)
+in_form-of_reading : {A : Type 0} (name : List ℕ) (found : Result A Fault) (next : A → Opening) → ((value : A) → OfReading (next value)) → OfReading (in_form name found next)
 in_form-of_reading name (Ok value) next rest = rest value
 in_form-of_reading name (Err line) next rest = tt
 
@@ -149,8 +149,8 @@ opening-of_reading (Some show) reading =
     of_answer : (texts : List (List ℕ)) (sheet : Option Answer) → OfReading (sheet_opening show texts sheet)
     of_answer texts None = tt
     of_answer texts (Some answer) = loaded-of_reading show.sheet answer
-        (λ bytes. in_form show.sheet (looks_of bytes) (λ looks. fitted show texts looks (first_misfit show.size looks.statics.height 1 texts)))
-        (λ bytes. in_form-of_reading show.sheet (looks_of bytes) (λ looks. fitted show texts looks (first_misfit show.size looks.statics.height 1 texts))
+        (λ bytes. in_form show.sheet (unbuilt (looks_of bytes)) (λ looks. fitted show texts looks (first_misfit show.size looks.statics.height 1 texts)))
+        (λ bytes. in_form-of_reading show.sheet (unbuilt (looks_of bytes)) (λ looks. fitted show texts looks (first_misfit show.size looks.statics.height 1 texts))
         (λ looks. of_fitted texts looks (first_misfit show.size looks.statics.height 1 texts)))
 
     of_sheet : (texts : List (List ℕ)) → OfReading (sheet_opening show texts reading.sheet)
@@ -245,7 +245,7 @@ sheet-fine show texts scene sheet (Err Failed) gives short opens = refl
 sheet-fine show texts scene sheet (Err PastLimit) gives short opens = absurd (omega (arith, gives, short))
 sheet-fine show texts scene sheet (Err NoRoom) gives short opens = tt
 
-texts-fine : (show : Show) (scene : Scene) (found : Result (List (List ℕ)) ℕ) (sheet : List ℕ) (answer : Answer) → LoadGives (Some sheet) file_limit answer → length sheet ≤ file_limit
+texts-fine : (show : Show) (scene : Scene) (found : Result (List (List ℕ)) Fault) (sheet : List ℕ) (answer : Answer) → LoadGives (Some sheet) file_limit answer → length sheet ≤ file_limit
     → in_form show.tree found (λ texts. sheet_opening show texts (Some (Ok sheet))) ≡ Opens scene → Fine (in_form show.tree found (λ texts. sheet_opening show texts (Some answer)))
 texts-fine show scene (Ok texts) sheet answer gives short opens = sheet-fine show texts scene sheet answer gives short opens
 texts-fine show scene (Err line) sheet answer gives short opens = absurd (subst Stopped opens tt)
@@ -301,7 +301,7 @@ unloaded-fine show scene tree sheet (Ok bytes) gives short opens = of (texts_of 
     Stopped (Stops cause) = Unit {0}
     Stopped (Opens found) = ⊥
 
-    of : (found : Result (List (List ℕ)) ℕ) → in_form show.tree found (λ texts. sheet_opening show texts (Some (Ok sheet))) ≡ Opens scene
+    of : (found : Result (List (List ℕ)) Fault) → in_form show.tree found (λ texts. sheet_opening show texts (Some (Ok sheet))) ≡ Opens scene
         → Fine (in_form show.tree found (λ texts. sheet_opening show texts None))
     of (Ok texts) h = tt
     of (Err line) h = absurd (subst Stopped h tt)

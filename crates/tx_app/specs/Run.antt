@@ -9,7 +9,7 @@ use Rattle.tx_io.specs.Loading.{FilesSeen, Load, load_of, after_loads}
 use Rattle.tx_io.specs.Store.{Answer, LoadGives}
 use Rattle.tx_term.specs.Update.{update, closing}
 use Rattle.tx_app.specs.Words.{Show, asked}
-use Rattle.tx_app.specs.TreeForm.{texts_of}
+use Rattle.tx_app.specs.TreeForm.{Fault, texts_of, unbuilt}
 use Rattle.tx_app.specs.SheetForm.{looks_of}
 use Rattle.tx_app.specs.Scene.{Scene, picture, at_first, first_misfit, scene_of}
 use Rattle.tx_app.specs.declared.outcome.Cause.{Cause}
@@ -19,7 +19,9 @@ use Rattle.tx_app.specs.declared.outcome.Entry.TheVariants.{Refresh}
 use Rattle.tx_app.specs.declared.outcome.Outcome.{Outcome}
 use Rattle.tx_app.specs.declared.outcome.Refreshed.TheVariants.{Accepted, SinkFault as SinkFailed, NoMemory as NoGrid}
 use Rattle.tx_app.specs.declared.outcome.Refusal.{Refusal}
-use Rattle.tx_app.specs.declared.outcome.Refusal.TheVariants.{TooLong, Unbuilt}
+use Rattle.tx_app.specs.declared.outcome.Refusal.TheVariants.{Tree, TooLong, Unbuilt}
+use Rattle.tx_tree.specs.declared.fault.TreeKind.{TreeKind}
+use Rattle.tx_tree.specs.declared.fault.TreeKind.TheVariants.{BadByte, Expected, BadIndent, DuplicateId, TooMany, TooDeep, Leaf}
 use Rattle.tx_app.specs.declared.sheet_form.Looks.{Looks}
 
 -- ---- reading
@@ -51,10 +53,10 @@ loaded name (Err Failed) next = Stops (ReadFault 1)
 loaded name (Err PastLimit) next = Stops (Refused name 0 0 TooLong)
 loaded name (Err NoRoom) next = Stops NoMemory
 
--- what stands in a file, or its first line outside the form
-abbrev pub in_form : {A : Type 0} → List ℕ → Result A ℕ → (A → Opening) → Opening
+-- what stands in a file, or its first line that is at fault
+abbrev pub in_form : {A : Type 0} → List ℕ → Result A Fault → (A → Opening) → Opening
 in_form name (Ok value) next = next value
-in_form name (Err line) next = Stops (Refused name line 1 Unbuilt)
+in_form name (Err fault) next = Stops (Refused name fault.0 1 fault.1)
 
 -- the scene, where all Statics fit; the i-th stands in line i + 1
 abbrev pub fitted : Show → List (List ℕ) → Looks → Option ℕ → Opening
@@ -65,7 +67,7 @@ fitted show texts looks None = Opens (scene_of show.size texts looks)
 abbrev pub sheet_opening : Show → List (List ℕ) → Option Answer → Opening
 sheet_opening show texts None = Stops NoMemory
 sheet_opening show texts (Some sheet) =
-    loaded show.sheet sheet (λ bytes. in_form show.sheet (looks_of bytes) (λ looks.
+    loaded show.sheet sheet (λ bytes. in_form show.sheet (unbuilt (looks_of bytes)) (λ looks.
     fitted show texts looks (first_misfit show.size looks.statics.height 1 texts)))
 
 -- the tree, and then what its texts come to
@@ -83,10 +85,10 @@ opening_of (Some show) reading = show_opening show reading
 -- ---- the loads
 
 -- the load of the sheet, which comes behind a tree in the form
-abbrev pub sheet_loads : List ℕ → Option Answer → Result (List (List ℕ)) ℕ → List Load
+abbrev pub sheet_loads : List ℕ → Option Answer → Result (List (List ℕ)) Fault → List Load
 sheet_loads name (Some answer) (Ok texts) = load_of name file_limit answer ∷ []
 sheet_loads name None (Ok texts) = []
-sheet_loads name answer (Err line) = []
+sheet_loads name answer (Err fault) = []
 
 abbrev pub loads_behind : Show → Answer → Option Answer → List Load
 loads_behind show (Ok bytes) sheet = sheet_loads show.sheet sheet (texts_of bytes)
@@ -197,7 +199,17 @@ status_of (Some (ReadFault rose)) = 3
 status_of (Some (SinkFault rose)) = 5
 status_of (Some NoMemory) = 6
 
+abbrev pub tree_kind_bytes : TreeKind → List ℕ
+tree_kind_bytes BadByte = codes "BadByte"
+tree_kind_bytes Expected = codes "Expected"
+tree_kind_bytes BadIndent = codes "BadIndent"
+tree_kind_bytes DuplicateId = codes "DuplicateId"
+tree_kind_bytes TooMany = codes "TooMany"
+tree_kind_bytes TooDeep = codes "TooDeep"
+tree_kind_bytes Leaf = codes "Leaf"
+
 abbrev pub kind_bytes : Refusal → List ℕ
+kind_bytes (Tree kind) = tree_kind_bytes kind
 kind_bytes TooLong = codes "TooLong"
 kind_bytes Unbuilt = codes "Unbuilt"
 

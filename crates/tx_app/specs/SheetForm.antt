@@ -1,10 +1,9 @@
 -- The sheets that can be shown: one rule in a line, for the Screen or for Statics.
-use Rattle.std.specs.Prelude.{ℕ, ◌+◌, ◌-◌, ◌*◌, ◌&&◌, nat_le, ◌==◌, List, [], ◌∷◌, Option, Some, None, Result, Ok, Err, if◌then◌else◌, codes, option_and_then, option_map}
+use Rattle.std.specs.Prelude.{ℕ, Bool, length, ◌+◌, ◌-◌, ◌*◌, ◌&&◌, nat_le, ◌==◌, List, [], ◌∷◌, Option, Some, None, Result, Ok, Err, if◌then◌else◌, codes, option_and_then, option_map}
 use Rattle.std.specs.Str.{bytes_eq}
 use Rattle.tx_geom.specs.declared.colours.Rgb.{Rgb}
 use Rattle.tx_read.specs.Pieces.{pieces, behind}
 use Rattle.tx_read.specs.Number.{number_at_most}
-use Rattle.tx_app.specs.TreeForm.{ends}
 use Rattle.tx_app.specs.declared.sheet_form.Declaration.{Declaration}
 use Rattle.tx_app.specs.declared.sheet_form.Declaration.TheVariants.{Height, Background, Color}
 use Rattle.tx_app.specs.declared.sheet_form.Look.{Look}
@@ -75,6 +74,10 @@ ruled looks line =
 -- no declaration
 abbrev pub no_look : Look
 no_look = record { height = None; background = None; color = None }
+
+-- these bytes stand behind the last line feed
+abbrev pub ends : List ℕ → Bool
+ends piece = length piece == 0
 
 -- the looks behind the lines from such a number on, or the first line outside the form
 abbrev pub looks_behind : ℕ → Looks → List (List ℕ) → Result Looks ℕ

@@ -1,30 +1,32 @@
--- The tree files that can be shown: a line for the Screen, and then one for each Static.
-use Rattle.std.specs.Prelude.{ℕ, ◌+◌, Bool, not, ◌&&◌, nat_le, nat_lt, ◌==◌, List, [], ◌∷◌, length, Option, Some, None, Result, Ok, Err, if◌then◌else◌, codes, option_and_then}
-use Rattle.std.specs.Str.{bytes_eq}
+-- The trees that can be shown: a Screen, and Statics directly below it, each with a text or none and nothing else.
+use Rattle.std.specs.Prelude.{ℕ, ◌+◌, Bool, true, false, not, ◌&&◌, nat_le, ◌==◌, List, [], ◌∷◌, Option, Some, None, Result, Ok, Err, if◌then◌else◌, is_none}
 use Rattle.std.specs.List.{list_all}
-use Rattle.tx_read.specs.Pieces.{pieces, behind}
+use Rattle.tx_tree.specs.declared.kind.Kind.{Kind}
+use Rattle.tx_tree.specs.declared.kind.Kind.TheVariants.{Static}
+use Rattle.tx_tree.specs.declared.row.Row.{Row}
+use Rattle.tx_tree_file.specs.TreeReading.{LineFault, tree_of}
+use Rattle.tx_app.specs.declared.outcome.Refusal.{Refusal}
+use Rattle.tx_app.specs.declared.outcome.Refusal.TheVariants.{Tree, Unbuilt}
 
 -- a character of a text: printable ASCII but for the quote and the backslash
 abbrev pub is_text_byte : ℕ → Bool
 is_text_byte byte = nat_le 32 byte && (nat_le byte 126 && (not (byte == 34) && not (byte == 92)))
 
--- behind the first quote stand a text that isn't empty, another quote, and nothing
-abbrev pub quoted : List (List ℕ) → Option (List ℕ)
-quoted (text ∷ [] ∷ []) = if nat_lt 0 (length text) && list_all is_text_byte text then Some text else None
-quoted _ = None
+abbrev pub is_empty : {A : Type 0} → List A → Bool
+is_empty [] = true
+is_empty (x ∷ xs) = false
 
--- what stands behind the name: nothing, or a text in quotes
-abbrev pub text_part : List ℕ → Option (List ℕ)
-text_part [] = Some []
-text_part (byte ∷ rest) = option_and_then (λ inside. quoted (pieces 34 inside)) (behind (codes " \"") (byte ∷ rest))
+abbrev pub is_static : Kind → Bool
+is_static Static = true
+is_static _ = false
 
--- the text of the Static that a line spells
-abbrev pub static_text : List ℕ → Option (List ℕ)
-static_text line = option_and_then text_part (behind (codes "  Static") line)
+-- a row that has nothing beside its kind and its text
+abbrev pub is_bare : Row → Bool
+is_bare row = is_none row.id && (is_empty row.classes.names && (not row.disabled && (is_empty row.inline && is_empty row.binds)))
 
--- these bytes stand behind the last line feed
-abbrev pub ends : List ℕ → Bool
-ends piece = length piece == 0
+-- the text of a Static
+abbrev pub static_text : Row → Option (List ℕ)
+static_text row = if is_static row.kind && (is_bare row && list_all is_text_byte row.text) then Some row.text else None
 
 -- a line's text, where it has one, before those of the lines below
 abbrev pub with_text : ℕ → Option (List ℕ) → Result (List (List ℕ)) ℕ → Result (List (List ℕ)) ℕ
@@ -32,17 +34,30 @@ with_text number None below = Err number
 with_text number (Some text) (Ok texts) = Ok (text ∷ texts)
 with_text number (Some text) (Err line) = Err line
 
--- the texts of the lines from such a number on, or the first line outside the form; a file has at most 65,536 lines
-abbrev pub statics : ℕ → List (List ℕ) → Result (List (List ℕ)) ℕ
-statics number [] = Err number
-statics number (piece ∷ []) = if ends piece then Ok [] else Err number
-statics number (line ∷ next ∷ rest) = if nat_lt 65536 number then Err number else with_text number (static_text line) (statics (number + 1) (next ∷ rest))
+-- the texts of the rows from the line of such a number on, or the first line outside the form; each row before has one line
+abbrev pub statics : ℕ → List Row → Result (List (List ℕ)) ℕ
+statics number [] = Ok []
+statics number (row ∷ rows) = with_text number (static_text row) (statics (number + 1) rows)
 
--- the first line is the Screen's
-abbrev pub below_screen : List (List ℕ) → Result (List (List ℕ)) ℕ
-below_screen (first ∷ next ∷ rest) = if bytes_eq first (codes "Screen") then statics 2 (next ∷ rest) else Err 1
-below_screen _ = Err 1
+-- the first row is the Screen
+abbrev pub below_screen : List Row → Result (List (List ℕ)) ℕ
+below_screen [] = Err 1
+below_screen (row ∷ rows) = if is_bare row && is_empty row.text then statics 2 rows else Err 1
 
--- The texts of the Statics in order, or the number of the first line that is outside the form.
-unfoldable pub texts_of : List ℕ → Result (List (List ℕ)) ℕ
-texts_of bytes = below_screen (pieces 10 bytes)
+-- a line, and what is wrong there
+abbrev pub Fault : Type 0
+Fault = ℕ × Refusal
+
+-- a line that is outside the form
+abbrev pub unbuilt : {A : Type 0} → Result A ℕ → Result A Fault
+unbuilt (Ok value) = Ok value
+unbuilt (Err line) = Err (line, Unbuilt)
+
+-- a fault of the file comes before a row that is outside the form
+abbrev pub texts_in : Result (List Row) LineFault → Result (List (List ℕ)) Fault
+texts_in (Ok rows) = unbuilt (below_screen rows)
+texts_in (Err fault) = Err (fault.line, Tree fault.kind)
+
+-- The texts of the Statics in order, or the first line that is at fault.
+unfoldable pub texts_of : List ℕ → Result (List (List ℕ)) Fault
+texts_of bytes = texts_in (tree_of bytes)

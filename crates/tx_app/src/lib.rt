@@ -10,11 +10,9 @@ mod scene;
 mod sheet_form;
 #[cfg(test)]
 mod tests;
-mod text;
 mod tree_form;
 mod words;
 
 pub use journal::Journal;
 pub use outcome::{Cause, Entry, Outcome, Refreshed, Refusal};
 pub use run::top_alone;
-pub use text::Text;

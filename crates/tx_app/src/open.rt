@@ -10,12 +10,12 @@ ghost use Rattle.tx_app.specs.declared.outcome.Cause.TheVariants.{Refused};
 use crate::outcome::{Cause, Refusal};
 use crate::scene::{Scene, first_misfit, scene_of};
 use crate::sheet_form::read_sheet;
-use crate::text::Text;
-use crate::tree_form::{FormFault, read_tree};
+use crate::tree_form::{FormFault, read_texts};
 use crate::words::read_words;
 use std::alloc::Global;
 use tx_geom::Size;
 use tx_io::{Files, LoadFault};
+use tx_tree::Text;
 
 const FILE_LIMIT: u64 = 4_194_304;
 
@@ -89,9 +89,9 @@ fn open_texts<F: Files>(alloc: Global, files: &mut F, tree: &str) -> Result<Vec<
     ensures few { IfOk result (λ texts. length texts.items < 65536) }
 {
     let bytes = load(alloc, files, tree)?;
-    match read_tree(alloc, &bytes) {
+    match read_texts(alloc, &bytes) {
         Ok(texts) => Ok(texts),
-        Err(FormFault::Line(line)) => Err(refused(alloc, tree, line, 1, Refusal::Unbuilt)),
+        Err(FormFault::At { line, kind }) => Err(refused(alloc, tree, line, 1, kind)),
         Err(FormFault::NoMemory) => Err(Cause::NoMemory),
     }
 }

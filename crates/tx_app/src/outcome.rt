@@ -1,7 +1,7 @@
 //! What a run comes to.
 
 use crate::journal::Journal;
-use crate::text::Text;
+use tx_tree::{Text, TreeKind};
 
 /// What a run did.
 #[derive(Debug, Drop)]
@@ -66,6 +66,8 @@ pub enum Cause {
 /// Why a file is refused.
 #[derive(Clone, Copy, Debug, PartialEq, Eq)]
 pub enum Refusal {
+    /// The line is the first one of the tree file that breaks a rule of its grammar.
+    Tree(TreeKind),
     /// The file is longer than 4 MiB.
     TooLong,
     /// The line has a form that can't be shown yet, or its Static doesn't fit on the screen.

@@ -2,11 +2,12 @@
 ghost use Rattle.std.specs.Prelude.{◌≡◌, false, decimal};
 ghost use Rattle.tx_io.specs.Sending.{seen};
 ghost use Rattle.tx_app.specs.Report.{Says, IsReported};
-ghost use Rattle.tx_app.specs.Run.{error_bytes, error_line, kind_bytes, refused_line};
+ghost use Rattle.tx_app.specs.Run.{error_bytes, error_line, kind_bytes, tree_kind_bytes, refused_line};
 
 use crate::outcome::{Cause, Refusal};
 use itoa::Buffer;
 use tx_io::{Sink, send_all};
+use tx_tree::TreeKind;
 
 /// Sends a piece behind others, unless a put of those failed. Answers whether one has failed.
 fn say<E: Sink>(err: &mut E, failed: bool, piece: &[u8]) -> bool
@@ -25,10 +26,25 @@ fn say_number<E: Sink>(err: &mut E, failed: bool, number: u32) -> bool
     say(err, failed, buffer.format(number).as_bytes())
 }
 
+fn tree_kind_bytes(kind: TreeKind) -> &'static [u8]
+    ensures { result.now ≡ tree_kind_bytes kind }
+{
+    match kind {
+        TreeKind::BadByte => b"BadByte",
+        TreeKind::Expected => b"Expected",
+        TreeKind::BadIndent => b"BadIndent",
+        TreeKind::DuplicateId => b"DuplicateId",
+        TreeKind::TooMany => b"TooMany",
+        TreeKind::TooDeep => b"TooDeep",
+        TreeKind::Leaf => b"Leaf",
+    }
+}
+
 fn kind_bytes(kind: Refusal) -> &'static [u8]
     ensures { result.now ≡ kind_bytes kind }
 {
     match kind {
+        Refusal::Tree(kind) => tree_kind_bytes(kind),
         Refusal::TooLong => b"TooLong",
         Refusal::Unbuilt => b"Unbuilt",
     }

@@ -6,11 +6,11 @@ ghost use Rattle.tx_app.specs.Words.{IsScreen};
 ghost use Rattle.tx_app.specs.Scene.{IsPaintable, picture, row_of_scene, text_in_row, fits, first_misfit, screen_pen, static_pen, scene_of};
 
 use crate::sheet_form::{Look, Looks};
-use crate::text::Text;
 use std::alloc::{AllocError, Global};
 use std::marker::Model;
 use tx_cell::{Cell, Grid, Pen, Strip, TextStyle, cells_of};
 use tx_geom::{Rgb, Size};
+use tx_tree::Text;
 
 /// A Screen with Statics, one below the other.
 #[derive(Drop)]

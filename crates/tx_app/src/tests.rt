@@ -204,7 +204,7 @@ fn is_cause(cause: &Option<Cause>, status: u8) -> bool {
         ) => status == 2 && *line == 0 && *column == 0,
         Some(
             Cause::Refused {
-                kind: Refusal::Unbuilt,
+                kind: Refusal::Unbuilt | Refusal::Tree(_),
                 column,
                 ..
             },
@@ -248,13 +248,39 @@ fn other_words_are_refused(rt: HostRuntime) -> Result<(), Fail> {
     Ok(())
 }
 
+/// Each tree is refused with this line.
+fn refuses_trees(rt: &HostRuntime, cases: &[(&[u8], &str)]) -> Result<(), Fail> {
+    for (tree, line) in cases {
+        refuses(rt, &Given { tree: *tree, ..STATICS }, 2, *line)?;
+    }
+    Ok(())
+}
+
 #[test]
-fn the_first_tree_line_outside_the_form_is_named(rt: HostRuntime) -> Result<(), Fail> {
-    let cases: [(&[u8], &str); 7] = [
+fn the_first_row_outside_the_form_is_named(rt: HostRuntime) -> Result<(), Fail> {
+    let cases: [(&[u8], &str); 9] = [
         (b"Screen\n  Button\n", "tx: t.tree:2:1: Unbuilt\n"),
-        (b"Screen", "tx: t.tree:1:1: Unbuilt\n"),
-        (b"Screen\n  Static \"a\\b\"\n", "tx: t.tree:2:1: Unbuilt\n"),
-        (b"Screen\n  Static \"\xff\"\n", "tx: t.tree:2:1: Unbuilt\n"),
+        (b"Screen #a\n  Static\n", "tx: t.tree:1:1: Unbuilt\n"),
+        (
+            b"Screen\n  bind a focus_next\n  Button\n",
+            "tx: t.tree:1:1: Unbuilt\n",
+        ),
+        (
+            b"Screen\n  Static\n  Static disabled\n",
+            "tx: t.tree:3:1: Unbuilt\n",
+        ),
+        (
+            b"Screen\n  Static\n    bind a focus_next\n",
+            "tx: t.tree:2:1: Unbuilt\n",
+        ),
+        (
+            b"Screen\n  Static \"a\\\\b\"\n",
+            "tx: t.tree:2:1: Unbuilt\n",
+        ),
+        (
+            b"Screen\n  Static \"\xc3\xa9\"\n",
+            "tx: t.tree:2:1: Unbuilt\n",
+        ),
         (
             b"Screen\n  Static\n  Static\n  Static\n",
             "tx: t.tree:4:1: Unbuilt\n",
@@ -263,12 +289,34 @@ fn the_first_tree_line_outside_the_form_is_named(rt: HostRuntime) -> Result<(), 
             b"Screen\n  Static \"abcdefg\"\n",
             "tx: t.tree:2:1: Unbuilt\n",
         ),
-        (b"Button\n", "tx: t.tree:1:1: Unbuilt\n"),
     ];
-    for (tree, line) in cases {
-        refuses(&rt, &Given { tree, ..STATICS }, 2, line)?;
-    }
-    Ok(())
+    refuses_trees(&rt, &cases)
+}
+
+/// A fault of the tree file comes before a row outside the form, also before an earlier one.
+#[test]
+fn the_first_fault_of_a_tree_is_named(rt: HostRuntime) -> Result<(), Fail> {
+    let cases: [(&[u8], &str); 9] = [
+        (b"", "tx: t.tree:1:1: Expected\n"),
+        (b"Screen", "tx: t.tree:1:1: Expected\n"),
+        (b"Button\n", "tx: t.tree:1:1: Expected\n"),
+        (b"Screen\n  Static \"a\\b\"\n", "tx: t.tree:2:1: Expected\n"),
+        (b"Screen\n  Static \"\xff\"\n", "tx: t.tree:2:1: BadByte\n"),
+        (b"Screen\n    Static\n", "tx: t.tree:2:1: BadIndent\n"),
+        (
+            b"Screen\n  Button\n    Static\n",
+            "tx: t.tree:3:1: Leaf\n",
+        ),
+        (
+            b"Screen\n  Static #a\n  Static #a\n",
+            "tx: t.tree:3:1: DuplicateId\n",
+        ),
+        (
+            b"Screen #a\n  Static\n  static\n",
+            "tx: t.tree:3:1: Expected\n",
+        ),
+    ];
+    refuses_trees(&rt, &cases)
 }
 
 #[test]

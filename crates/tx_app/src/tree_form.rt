@@ -1,24 +1,22 @@
-//! The tree files that can be shown today.
-ghost use Rattle.std.specs.Prelude.{◌≡◌, ◌<◌, true, IfSome, IfOk, length, Ok, Err, Some, MatchResult, option_map, codes};
+//! The trees that can be shown today.
+ghost use Rattle.std.specs.Prelude.{◌≡◌, ◌<◌, ◌≤◌, ◌+◌, ◌^◌, IfSome, IfOk, length, map, option_map};
 ghost use Rattle.std.specs.List.{list_all, AllPass, AllByRecursion};
-ghost use Rattle.std.specs.Str.{bytes_eq};
 ghost use Rattle.tx_cell.specs.Plain.{is_printable};
-ghost use Rattle.tx_app.specs.Reading.{ReadsForm};
-ghost use Rattle.tx_app.specs.TreeForm.{texts_of, statics, static_text, text_part, quoted, is_text_byte};
-ghost use Rattle.tx_read.specs.Pieces.{pieces};
+ghost use Rattle.tx_tree.specs.Row.{plain};
+ghost use Rattle.tx_tree_file.specs.TreeReading.{tree_of};
+ghost use Rattle.tx_app.specs.Reading.{ReadsForm, ReadsRows, unbuilt_at};
+ghost use Rattle.tx_app.specs.TreeForm.{texts_of, unbuilt, below_screen, statics, static_text, is_bare, is_static, is_text_byte, is_empty};
 
-use crate::text::Text;
+use crate::outcome::Refusal;
 use std::alloc::{AllocError, AllocFailed, Global};
-use std::str;
-use tx_read::{split_once, strip_prefix};
-
-const MOST_LINES: u32 = 65_536;
+use tx_tree::{Kind, Row, Text, TreeFault};
+use tx_tree_file::read_tree;
 
 /// Why a file wasn't read.
 #[derive(Debug, Drop)]
 pub enum FormFault {
-    /// The number of the first line outside the form.
-    Line(u32),
+    /// The number of the first line that is at fault, and what is wrong there.
+    At { line: u32, kind: Refusal },
     NoMemory,
 }
 
@@ -42,104 +40,120 @@ impl<T: Drop> From<AllocFailed<T>> for FormFault {
     }
 }
 
-/// Whether these are one character or more of a text.
+/// A line outside the form.
+fn unbuilt(line: u32) -> FormFault
+    ensures { result ≡ unbuilt_at line }
+{
+    FormFault::At {
+        line,
+        kind: Refusal::Unbuilt,
+    }
+}
+
+/// Whether all of these may stand in a text.
 fn is_text(text: &[u8]) -> bool
     ensures { result ≡ list_all is_text_byte text.now }
 {
     text.iter().all(|byte| matches!(byte, b' '..=b'~') && *byte != b'"' && *byte != b'\\')
 }
 
-/// Bytes that were all tested, as a text.
-fn as_text(bytes: &[u8]) -> &str
-    requires { list_all is_text_byte bytes.now ≡ true }
-    ensures text { result.now ≡ bytes.now }
-    ensures printable { AllPass is_printable result.now }
+/// Whether a row has nothing beside its kind and its text.
+fn is_bare(row: &Row) -> bool
+    ensures { result ≡ is_bare row.now }
 {
-    match str::from_utf8(bytes) {
-        Ok(text) => text,
-        Err(_) => unreachable!(),
-    }
+    row.id.is_none()
+        && row.classes.as_slice().is_empty()
+        && !row.disabled
+        && row.inline.as_str().is_empty()
+        && row.binds.as_slice().is_empty()
 }
 
-/// The text between two quotes, the first of which was read, where nothing stands behind them.
-fn quoted(inside: &[u8]) -> Option<&str>
-    ensures text { option_map (λ text. text.now) result ≡ quoted (pieces 34 inside.now) }
+fn is_static(kind: Kind) -> bool
+    ensures { result ≡ is_static kind }
+{
+    matches!(kind, Kind::Static)
+}
+
+/// The text of a Static.
+fn static_text(row: &Row) -> Option<&str>
+    ensures text { option_map (λ text. text.now) result ≡ static_text row.now }
     ensures printable { IfSome result (λ text. AllPass is_printable text.now) }
 {
-    let (text, rest) = split_once(inside, b'"')?;
-    if !rest.is_empty() {
-        return None;
-    }
-    if !text.is_empty() && is_text(text) {
-        Some(as_text(text))
+    if is_static(row.kind) && is_bare(row) && is_text(row.text.as_str().as_bytes()) {
+        Some(row.text.as_str())
     } else {
         None
     }
 }
 
-fn text_part(part: &[u8]) -> Option<&str>
-    ensures text { option_map (λ text. text.now) result ≡ text_part part.now }
-    ensures printable { IfSome result (λ text. AllPass is_printable text.now) }
+/// The texts of the rows behind the Screen, the first of which stands in line 2.
+fn read_statics(alloc: Global, rows: &[Row]) -> Result<Vec<Text>, FormFault>
+    requires { length rows.now < 65536 }
+    ensures reads { ReadsForm (λ texts. texts.items) result (unbuilt (statics 2 rows.now)) }
+    ensures printable { IfOk result (λ texts. AllByRecursion (AllPass is_printable) texts.items) }
+    ensures few { IfOk result (λ texts. length texts.items ≤ length rows.now) }
 {
-    if part.is_empty() {
-        return Some("");
+    let mut texts = Vec::new(alloc);
+    let mut number = 2;
+    for row in rows {
+        let Some(text) = static_text(row) else {
+            return Err(unbuilt(number));
+        };
+        texts.push(Text::of(alloc, text)?)?;
+        number += 1;
     }
-    quoted(strip_prefix(part, b" \"")?)
+    Ok(texts)
 }
 
-/// The text of the Static that a line spells.
-fn static_text(line: &[u8]) -> Option<&str>
-    ensures text { option_map (λ text. text.now) result ≡ static_text line.now }
-    ensures printable { IfSome result (λ text. AllPass is_printable text.now) }
+/// The texts of a tree, whose first row is the Screen.
+fn texts_in(alloc: Global, rows: &[Row]) -> Result<Vec<Text>, FormFault>
+    requires { length rows.now ≤ 65536 }
+    ensures reads { ReadsForm (λ texts. texts.items) result (unbuilt (below_screen rows.now)) }
+    ensures printable { IfOk result (λ texts. AllByRecursion (AllPass is_printable) texts.items) }
+    ensures few { IfOk result (λ texts. length texts.items < 65536) }
 {
-    text_part(strip_prefix(line, b"  Static")?)
+    match rows {
+        [screen, statics @ ..] => {
+            if is_bare(screen) && screen.text.as_str().is_empty() {
+                read_statics(alloc, statics)
+            } else {
+                Err(unbuilt(1))
+            }
+        }
+        [] => Err(unbuilt(1)),
+    }
 }
 
-/// The texts of the Statics of a file, in order.
-pub fn read_tree(alloc: Global, bytes: &[u8]) -> Result<Vec<Text>, FormFault>
+/// The rows of a tree file.
+fn read_rows(alloc: Global, bytes: &[u8]) -> Result<Vec<Row>, FormFault>
+    requires { length bytes.now < 2 ^ 32 }
+    ensures rows { ReadsRows result (tree_of bytes.now) }
+    ensures few { IfOk result (λ rows. length rows.items ≤ 65536) }
+{
+    match read_tree(alloc, bytes) {
+        Ok(tree) => {
+            let _made = tree.made();
+            let rows = tree.rows()?;
+            Ok(rows)
+        }
+        Err(TreeFault::Grammar { line, kind }) => Err(FormFault::At {
+            line,
+            kind: Refusal::Tree(kind),
+        }),
+        Err(_) => Err(FormFault::NoMemory),
+    }
+}
+
+/// The texts of the Statics of a tree file, in order.
+#[tactic(auto, unfolding(crate::specs::TreeForm::texts_of))]
+pub fn read_texts(alloc: Global, bytes: &[u8]) -> Result<Vec<Text>, FormFault>
+    requires { length bytes.now < 2 ^ 32 }
     ensures reads { ReadsForm (λ texts. texts.items) result (texts_of bytes.now) }
     ensures printable { IfOk result (λ texts. AllByRecursion (AllPass is_printable) texts.items) }
     ensures few { IfOk result (λ texts. length texts.items < 65536) }
 {
-    let Some((first, rest)) = split_once(bytes, b'\n') else {
-        return Err(FormFault::Line(1));
-    };
-    if is_screen(first) {
-        read_statics(alloc, rest)
-    } else {
-        Err(FormFault::Line(1))
-    }
-}
-
-fn is_screen(line: &[u8]) -> bool
-    ensures { result ≡ bytes_eq line.now (codes "Screen") }
-{
-    line == b"Screen".as_slice()
-}
-
-/// The texts of the lines from the second on.
-fn read_statics(alloc: Global, bytes: &[u8]) -> Result<Vec<Text>, FormFault>
-    ensures reads { ReadsForm (λ texts. texts.items) result (statics 2 (pieces 10 bytes.now)) }
-    ensures printable { IfOk result (λ texts. AllByRecursion (AllPass is_printable) texts.items) }
-    ensures few { IfOk result (λ texts. length texts.items < 65536) }
-{
-    let mut texts = Vec::new(alloc);
-    let mut number = 2;
-    let mut rest = bytes;
-    while let Some((line, below)) = split_once(rest, b'\n') {
-        if number > MOST_LINES {
-            return Err(FormFault::Line(number));
-        }
-        let Some(text) = static_text(line) else {
-            return Err(FormFault::Line(number));
-        };
-        texts.push(Text::of(alloc, text)?)?;
-        number += 1;
-        rest = below;
-    }
-    if rest.is_empty() {
-        Ok(texts)
-    } else {
-        Err(FormFault::Line(number))
+    match read_rows(alloc, bytes) {
+        Ok(rows) => texts_in(alloc, &rows),
+        Err(fault) => Err(fault),
     }
 }
