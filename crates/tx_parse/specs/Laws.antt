@@ -1,0 +1,24 @@
+-- What holds of the reading of sheets and of inline texts.
+use Rattle.std.specs.Prelude.{◌≡◌, ℕ, Bool, true, false, List, [], ◌∷◌, ◌++◌, Ok, Err}
+use Rattle.tx_lex.specs.Lexemes.{Lexeme}
+use Rattle.tx_parse.specs.Grammar.{Body, Found, IsSheet, IsBody}
+use Rattle.tx_parse.specs.Reads.{Wrong, sheet_at, inline_at}
+
+-- a list of tokens is read exactly where it is in the grammar, as what it is there
+abbrev pub SheetsAreRead : Type 0
+SheetsAreRead = (ts : List Lexeme) (found : Found) → (sheet_at ts ≡ Ok (found, []) → IsSheet ts found) × (IsSheet ts found → sheet_at ts ≡ Ok (found, []))
+
+abbrev pub InlineTextsAreRead : Type 0
+InlineTextsAreRead = (ts : List Lexeme) (body : Body) → (inline_at ts ≡ Ok (body, []) → IsBody [] ts body) × (IsBody [] ts body → inline_at ts ≡ Ok (body, []))
+
+-- nothing that begins as these tokens do, up to and with the one at which a fault is met, is in the grammar; where they end
+-- too soon, they aren't
+abbrev pub NoneBeginsSo : (List Lexeme → Type 0) → List Lexeme → List Lexeme → Type 0
+NoneBeginsSo IsIn ts [] = IsIn ts → ⊥
+NoneBeginsSo IsIn ts (t ∷ more) = (front : List Lexeme) × (ts ≡ front ++ (t ∷ more)) × ((other : List Lexeme) → IsIn (front ++ (t ∷ other)) → ⊥)
+
+-- a fault is met at the first token with which nothing in the grammar begins
+abbrev pub FaultsAreFirst : Type 0
+FaultsAreFirst = (ts rest : List Lexeme) (wrong : Wrong)
+    → (sheet_at ts ≡ Err (wrong, rest) → NoneBeginsSo (λ other. (found : Found) × IsSheet other found) ts rest)
+    × (inline_at ts ≡ Err (wrong, rest) → NoneBeginsSo (λ other. (body : Body) × IsBody [] other body) ts rest)

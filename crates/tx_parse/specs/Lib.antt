@@ -1,0 +1,9 @@
+pub mod Default
+pub mod Grammar
+pub mod Laws
+pub mod Places
+pub mod Reads
+pub mod Texts
+pub mod Uses
+pub mod Values
+pub mod Variables

@@ -1,0 +1,218 @@
+-- How sheets and inline texts are read from the left.
+use Rattle.std.specs.Prelude.{ℕ, zero, suc, ◌+◌, Bool, true, false, not, ◌&&◌, ◌||◌, nat_lt, List, [], ◌∷◌, ◌++◌, length, drop, Option, Some, None, Result, Ok, Err, if◌then◌else◌, codes}
+use Rattle.std.specs.Str.{bytes_eq}
+use Rattle.tx_read.specs.Reading.{Reader, ◌>>=◌, in_turn}
+use Rattle.tx_lex.specs.Lexemes.{Lexeme, is_blank, is_name_token, is_variable, is_mark}
+use Rattle.tx_tree.specs.Name.{is_name}
+use Rattle.tx_select.specs.Lexemes.{begins_compound}
+use Rattle.tx_select.specs.Reads.{selector_at}
+use Rattle.tx_select.specs.declared.fault.SelectKind.{SelectKind}
+use Rattle.tx_select.specs.declared.fault.SelectKind.TheVariants as select
+use Rattle.tx_select.specs.declared.value.Compound.{Compound}
+use Rattle.tx_select.specs.declared.value.Selector.{Selector}
+use Rattle.tx_value.specs.Declarations.{Pair, declaration}
+use Rattle.tx_value.specs.Names.{is_known}
+use Rattle.tx_value.specs.declared.fault.ValueFault.{ValueFault}
+use Rattle.tx_parse.specs.Values.{DeclarationValue, RuleValue, important_pairs}
+use Rattle.tx_parse.specs.Variables.{Defined, is_value, stands_for}
+use Rattle.tx_parse.specs.Grammar.{Body, nothing, counted, Found, nothing_found, with_variable, with_rule}
+use Rattle.tx_parse.specs.declared.fault.SheetKind.{SheetKind}
+use Rattle.tx_parse.specs.declared.fault.SheetKind.TheVariants.{Expected, UndefinedVariable, ValueTooLong, UnknownProperty, UnknownPseudo, BadValue, TooManyRules}
+
+-- what is wrong, and the place that is told of it where this isn't that of the token at which it is met
+pub record Wrong : Type 0 where
+  pub kind : SheetKind
+  pub place : Option ℕ
+
+-- a fault is what is wrong, and what stands from the token on at which it is met
+abbrev pub Reads : Type 0 → Type 0
+Reads A = Reader (List Lexeme) (Wrong × List Lexeme) A
+
+abbrev pub Read : Type 0 → Type 0
+Read A = Result (A × List Lexeme) (Wrong × List Lexeme)
+
+abbrev pub met : {A : Type 0} → SheetKind → List Lexeme → Read A
+met kind ts = Err (record { kind = kind; place = None }, ts)
+
+abbrev pub expected : {A : Type 0} → List Lexeme → Read A
+expected ts = met Expected ts
+
+-- this, without reading on
+abbrev pub give : {A : Type 0} → A → Reads A
+give a ts = Ok (a, ts)
+
+-- ---- single tokens
+
+-- what is behind spaces and comments
+abbrev pub past_blanks : List Lexeme → List Lexeme
+past_blanks [] = []
+past_blanks (t ∷ ts) = if is_blank t.kind then past_blanks ts else t ∷ ts
+
+abbrev pub token_at : (Lexeme → Bool) → Reads Lexeme
+token_at test [] = expected []
+token_at test (t ∷ ts) = if test t then Ok (t, ts) else expected (t ∷ ts)
+
+-- this mark, with spaces and comments before it
+unfoldable pub mark_at : ℕ → List Lexeme → Read Lexeme
+mark_at byte ts = token_at (λ t. is_mark byte t.kind) (past_blanks ts)
+
+-- ---- values
+
+-- what a token of values adds to those before it
+abbrev pub added : List Lexeme → Lexeme → List Lexeme → Option (List Lexeme) → Read (List Lexeme)
+added found t ts None = met UndefinedVariable (t ∷ ts)
+added found t ts (Some stand) = if nat_lt 64 (length found + length stand) then met ValueTooLong (t ∷ ts) else Ok (found ++ stand, ts)
+
+-- values with those found before: as far as tokens of values go on
+unfoldable pub values_from : Defined → List Lexeme → List Lexeme → Read (List Lexeme)
+values_from defined found [] = Ok (found, [])
+values_from defined found (t ∷ ts) =
+    if is_blank t.kind then values_from defined found ts
+    else if is_value t.kind then added found t ts (stands_for defined t) >>= (λ more. values_from defined more.0 ts)
+    else Ok (found, t ∷ ts)
+
+abbrev pub at_least_one : List Lexeme → Reads (List Lexeme)
+at_least_one [] ts = expected ts
+at_least_one (value ∷ values) ts = Ok (value ∷ values, ts)
+
+-- what the values stand for
+unfoldable pub values_at : Defined → List Lexeme → Read (List Lexeme)
+values_at defined ts = in_turn (values_from defined []) at_least_one ts
+
+-- ---- declarations
+
+-- the place of the first value
+abbrev pub place_of : List Lexeme → ℕ
+place_of [] = 0
+place_of (t ∷ ts) = t.place
+
+unfoldable pub first_value_at : List Lexeme → Read ℕ
+first_value_at ts = Ok (place_of (past_blanks ts), past_blanks ts)
+
+abbrev pub is_important : Lexeme → Bool
+is_important t = is_name_token t.kind && bytes_eq t.bytes (codes "important")
+
+-- whether `!` and `important` come, with the spaces and comments behind them
+abbrev pub importance_at : List Lexeme → Read Bool
+importance_at [] = Ok (false, [])
+importance_at (t ∷ ts) =
+    if is_mark 33 t.kind then in_turn (λ rest. token_at is_important (past_blanks rest)) (λ word rest. Ok (true, past_blanks rest)) ts
+    else Ok (false, t ∷ ts)
+
+-- whether a declaration ends there: before a `;` or, in a block, before a `}`; and at the end of an inline text
+abbrev pub is_end : Bool → List Lexeme → Bool
+is_end inline [] = inline
+is_end inline (t ∷ ts) = is_mark 59 t.kind || (not inline && is_mark 125 t.kind)
+
+-- the declarations that it stands for; else the fault is met at its end and told of its first value
+abbrev pub told : ℕ → Bool → Result (List Pair) ValueFault → Reads (List DeclarationValue)
+told first important (Ok pairs) ts = Ok (important_pairs important pairs, ts)
+told first important (Err fault) ts = Err (record { kind = BadValue; place = Some first }, ts)
+
+abbrev pub ended : Bool → Lexeme → ℕ → List Lexeme → Bool → Reads (List DeclarationValue)
+ended inline name first stand important ts = if is_end inline ts then told first important (declaration name.bytes stand) ts else expected ts
+
+-- behind the name of a property
+unfoldable pub behind_name : Bool → Defined → Lexeme → List Lexeme → Read (List DeclarationValue)
+behind_name inline defined name ts =
+    in_turn (mark_at 58) (λ colon. in_turn first_value_at (λ first. in_turn (values_at defined) (λ stand. in_turn importance_at (ended inline name first stand)))) ts
+
+abbrev pub declaration_at : Bool → Defined → List Lexeme → Read (List DeclarationValue)
+declaration_at inline defined [] = expected []
+declaration_at inline defined (t ∷ ts) =
+    if is_name_token t.kind then (if is_known t.bytes then behind_name inline defined t ts else met UnknownProperty (t ∷ ts))
+    else expected (t ∷ ts)
+
+abbrev pub with_declarations : List DeclarationValue → Body → Body
+with_declarations declarations body = record { declarations = body.declarations ++ declarations; written = counted body.written 1 }
+
+-- behind spaces and comments: a `;`, a declaration, or the end, which is the `}` of a block, which is taken, or the end of an
+-- inline text
+abbrev pub next_in_body : (Body → Reads Body) → Bool → Defined → Body → Reads Body
+next_in_body more inline defined found [] = if inline then Ok (found, []) else expected []
+next_in_body more inline defined found (t ∷ ts) =
+    if is_mark 59 t.kind then more found ts
+    else if not inline && is_mark 125 t.kind then Ok (found, ts)
+    else in_turn (declaration_at inline defined) (λ declarations. more (with_declarations declarations found)) (t ∷ ts)
+
+-- Declarations and `;` behind those found before, up to the end. There are at most so many.
+unfoldable pub body_from : ℕ → Bool → Defined → Body → List Lexeme → Read Body
+body_from zero inline defined found ts = expected ts
+body_from (suc most) inline defined found ts = next_in_body (body_from most inline defined) inline defined found (past_blanks ts)
+
+unfoldable pub body_at : Bool → Defined → List Lexeme → Read Body
+body_at inline defined ts = body_from (suc (length ts)) inline defined nothing ts
+
+-- ---- rules
+
+abbrev pub kind_of : SelectKind → SheetKind
+kind_of select.Expected = Expected
+kind_of select.UnknownPseudo = UnknownPseudo
+
+abbrev pub as_selector : Result (List Compound × List Lexeme) (SelectKind × List Lexeme) → Read Selector
+as_selector (Ok found) = Ok (record { compounds = found.0 }, found.1)
+as_selector (Err fault) = met (kind_of fault.0) fault.1
+
+-- a selector, with spaces and comments round it
+unfoldable pub spaced_selector_at : List Lexeme → Read Selector
+spaced_selector_at ts = as_selector (selector_at (past_blanks ts))
+
+-- behind a selector: a comma and further selectors, or a `{`, which is taken
+abbrev pub behind_selector : (List Selector → Reads (List Selector)) → List Selector → Reads (List Selector)
+behind_selector more found [] = expected []
+behind_selector more found (t ∷ ts) =
+    if is_mark 44 t.kind then more found ts
+    else if is_mark 123 t.kind then Ok (found, ts)
+    else expected (t ∷ ts)
+
+-- Selectors behind those found before, at most so many, with a comma between two, and the `{` behind them.
+unfoldable pub selectors_from : ℕ → List Selector → List Lexeme → Read (List Selector)
+selectors_from zero found ts = expected (past_blanks ts)
+selectors_from (suc most) found ts = in_turn spaced_selector_at (λ selector. behind_selector (selectors_from most) (found ++ (selector ∷ []))) ts
+
+-- the rule, and how many declarations were written in it
+abbrev pub rule_of : List Selector → Body → RuleValue × ℕ
+rule_of selectors body = (record { selectors = selectors; declarations = body.declarations }, body.written)
+
+unfoldable pub rule_at : Defined → List Lexeme → Read (RuleValue × ℕ)
+rule_at defined ts = in_turn (selectors_from 64 []) (λ selectors. in_turn (body_at false defined) (λ body. give (rule_of selectors body))) ts
+
+-- ---- variables
+
+-- behind the name of a variable
+unfoldable pub definition_at : Defined → List Lexeme → Read (List Lexeme)
+definition_at defined ts = in_turn (mark_at 58) (λ colon. in_turn (values_at defined) (λ stand. in_turn (mark_at 59) (λ end. give stand))) ts
+
+-- ---- sheets
+
+-- a variable, whose name has at most 64 bytes
+abbrev pub variable_in_sheet : (Found → Reads Found) → Found → Lexeme → Reads Found
+variable_in_sheet more found name ts =
+    if is_name (drop 1 name.bytes) then in_turn (definition_at found.defined) (λ stand. more (with_variable (drop 1 name.bytes) stand found)) ts
+    else expected (name ∷ ts)
+
+-- a rule, where fewer than 10,000 stand before it
+abbrev pub rule_in_sheet : (Found → Reads Found) → Found → Reads Found
+rule_in_sheet more found ts =
+    if nat_lt (length found.rules) 10000 then in_turn (rule_at found.defined) (λ rule. more (with_rule rule.0 rule.1 found)) ts
+    else met TooManyRules ts
+
+-- behind spaces and comments: a variable, a rule, or the end
+abbrev pub next_in_sheet : (Found → Reads Found) → Found → Reads Found
+next_in_sheet more found [] = Ok (found, [])
+next_in_sheet more found (t ∷ ts) =
+    if is_variable t.kind then variable_in_sheet more found t ts
+    else if begins_compound t.kind then rule_in_sheet more found (t ∷ ts)
+    else expected (t ∷ ts)
+
+-- Variables and rules behind what was found before, up to the end. There are at most so many.
+unfoldable pub sheet_from : ℕ → Found → List Lexeme → Read Found
+sheet_from zero found ts = expected ts
+sheet_from (suc most) found ts = next_in_sheet (sheet_from most) found (past_blanks ts)
+
+unfoldable pub sheet_at : List Lexeme → Read Found
+sheet_at ts = sheet_from (suc (length ts)) nothing_found ts
+
+-- an inline text, in which only the variables of the theme are defined
+unfoldable pub inline_at : List Lexeme → Read Body
+inline_at ts = body_at true [] ts

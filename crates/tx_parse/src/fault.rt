@@ -1,0 +1,66 @@
+//! Why no sheet was read.
+ghost use Rattle.std.specs.Prelude.{◌≡◌};
+ghost use Rattle.tx_parse.specs.declared.fault.SheetFault.TheVariants.{NoMemory as no_memory};
+
+use std::alloc::AllocError;
+use thiserror::Error;
+
+/// Which rule the first fault breaks.
+#[derive(Clone, Copy, Debug, PartialEq, Eq, Error)]
+pub enum SheetKind {
+    /// A comment has no end. It stands at the comment.
+    #[error("a comment has no end")]
+    Unclosed,
+    /// A byte that begins no token, or that isn't UTF-8.
+    #[error("not a token")]
+    BadByte,
+    /// A number has more than 9 whole digits or more than 18 decimals.
+    #[error("a number has too many digits")]
+    NumberTooLong,
+    /// The token isn't one that may stand there, or the text ends too soon. It also is the 17th
+    /// compound of a selector, the 65th selector of a rule, and a name that has more than 64 bytes.
+    #[error("something else was expected")]
+    Expected,
+    /// No line above defines the variable.
+    #[error("the variable isn't defined")]
+    UndefinedVariable,
+    /// With this token there are more than 64 values.
+    #[error("too many values")]
+    ValueTooLong,
+    /// No property has this name.
+    #[error("no such property")]
+    UnknownProperty,
+    /// No pseudo-class has this name.
+    #[error("no such pseudo-class")]
+    UnknownPseudo,
+    /// The property doesn't have these values. It stands at the first of them.
+    #[error("not a value of the property")]
+    BadValue,
+    /// The rule is the 10,001st.
+    #[error("too many rules")]
+    TooManyRules,
+}
+
+/// Why a sheet or an inline text is refused.
+#[derive(Clone, Copy, Debug, PartialEq, Eq, Error)]
+pub enum SheetFault {
+    /// The first fault. Line and column count from 1, the column in characters; each stands still
+    /// at 4,294,967,295.
+    #[error("line {line}, column {column}: {kind}")]
+    Text {
+        line: u32,
+        column: u32,
+        kind: SheetKind,
+    },
+    /// Want of memory.
+    #[error("no memory")]
+    NoMemory,
+}
+
+impl From<AllocError> for SheetFault {
+    ghost from_gives = { λ _ fault. fault ≡ no_memory };
+
+    fn from(_: AllocError) -> SheetFault {
+        SheetFault::NoMemory
+    }
+}

@@ -1,0 +1,18 @@
+//! What holds of the definitions.
+ghost use Rattle.tx_parse.specs.Laws.{SheetsAreRead, InlineTextsAreRead, FaultsAreFirst};
+
+/// A list of tokens is read as a sheet exactly where it is in the grammar.
+pub fn sheets_are_read()
+    ensures { SheetsAreRead }
+{}
+
+/// A list of tokens is read as an inline text exactly where it is in the grammar.
+pub fn inline_texts_are_read()
+    ensures { InlineTextsAreRead }
+{}
+
+/// Where a fault is met at a token, nothing that begins with the tokens up to and with that one is
+/// in the grammar. Where it is met at the end, the list itself isn't.
+pub fn faults_are_first()
+    ensures { FaultsAreFirst }
+{}

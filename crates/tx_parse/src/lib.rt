@@ -1,0 +1,16 @@
+//! Stylesheets of TCSS (<https://textual.textualize.io/guide/CSS/>) and inline texts, read whole.
+//!
+//! [`read_sheet`] reads the bytes of a sheet, and [`read_inline`] the declarations of one row's own.
+#![tactic(auto)]
+
+mod default;
+mod fault;
+pub mod laws;
+mod places;
+mod sheet;
+mod texts;
+
+pub use default::DEFAULT_SHEET;
+pub use fault::{SheetFault, SheetKind};
+pub use sheet::{Declaration, Declarations, Rule, Rules, Selectors, Sheet};
+pub use texts::{read_inline, read_sheet};
