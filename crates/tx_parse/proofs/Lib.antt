@@ -1,0 +1,5 @@
+pub mod BodySteps
+pub mod Cases
+pub mod Definitions
+pub mod Turns
+pub mod ValueSteps

@@ -2,7 +2,8 @@
 use Rattle.std.specs.Prelude.{◌≡◌, ℕ, Bool, true, false, List, [], ◌∷◌, ◌++◌, Ok, Err}
 use Rattle.tx_lex.specs.Lexemes.{Lexeme}
 use Rattle.tx_parse.specs.Grammar.{Body, Found, IsSheet, IsBody}
-use Rattle.tx_parse.specs.Reads.{Wrong, sheet_at, inline_at}
+use Rattle.tx_parse.specs.declared.fault.Wrong.{Wrong}
+use Rattle.tx_parse.specs.Reads.{sheet_at, inline_at}
 
 -- a list of tokens is read exactly where it is in the grammar, as what it is there
 abbrev pub SheetsAreRead : Type 0

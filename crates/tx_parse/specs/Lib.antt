@@ -1,8 +1,10 @@
+pub mod Answers
 pub mod Default
 pub mod Grammar
 pub mod Laws
 pub mod Places
 pub mod Reads
+pub mod Seen
 pub mod Texts
 pub mod Uses
 pub mod Values

@@ -2,7 +2,7 @@
 use Rattle.std.specs.Prelude.{ℕ, zero, suc, ◌+◌, Bool, true, false, not, ◌&&◌, ◌||◌, nat_lt, List, [], ◌∷◌, ◌++◌, length, drop, Option, Some, None, Result, Ok, Err, if◌then◌else◌, codes}
 use Rattle.std.specs.Str.{bytes_eq}
 use Rattle.tx_read.specs.Reading.{Reader, ◌>>=◌, in_turn}
-use Rattle.tx_lex.specs.Lexemes.{Lexeme, is_blank, is_name_token, is_variable, is_mark}
+use Rattle.tx_lex.specs.Lexemes.{Lexeme, is_blank, is_name_token, is_variable, is_mark, first_is}
 use Rattle.tx_tree.specs.Name.{is_name}
 use Rattle.tx_select.specs.Lexemes.{begins_compound}
 use Rattle.tx_select.specs.Reads.{selector_at}
@@ -17,12 +17,8 @@ use Rattle.tx_parse.specs.Values.{DeclarationValue, RuleValue, important_pairs}
 use Rattle.tx_parse.specs.Variables.{Defined, is_value, stands_for}
 use Rattle.tx_parse.specs.Grammar.{Body, nothing, counted, Found, nothing_found, with_variable, with_rule}
 use Rattle.tx_parse.specs.declared.fault.SheetKind.{SheetKind}
+use Rattle.tx_parse.specs.declared.fault.Wrong.{Wrong}
 use Rattle.tx_parse.specs.declared.fault.SheetKind.TheVariants.{Expected, UndefinedVariable, ValueTooLong, UnknownProperty, UnknownPseudo, BadValue, TooManyRules}
-
--- what is wrong, and the place that is told of it where this isn't that of the token at which it is met
-pub record Wrong : Type 0 where
-  pub kind : SheetKind
-  pub place : Option ℕ
 
 -- a fault is what is wrong, and what stands from the token on at which it is met
 abbrev pub Reads : Type 0 → Type 0
@@ -92,48 +88,73 @@ first_value_at ts = Ok (place_of (past_blanks ts), past_blanks ts)
 abbrev pub is_important : Lexeme → Bool
 is_important t = is_name_token t.kind && bytes_eq t.bytes (codes "important")
 
+-- the word behind `!`, and the spaces and comments behind it
+abbrev pub important_word_at : List Lexeme → Read Bool
+important_word_at ts = in_turn (λ rest. token_at is_important (past_blanks rest)) (λ word rest. Ok (true, past_blanks rest)) ts
+
 -- whether `!` and `important` come, with the spaces and comments behind them
-abbrev pub importance_at : List Lexeme → Read Bool
+unfoldable pub importance_at : List Lexeme → Read Bool
 importance_at [] = Ok (false, [])
-importance_at (t ∷ ts) =
-    if is_mark 33 t.kind then in_turn (λ rest. token_at is_important (past_blanks rest)) (λ word rest. Ok (true, past_blanks rest)) ts
-    else Ok (false, t ∷ ts)
+importance_at (t ∷ ts) = if is_mark 33 t.kind then important_word_at ts else Ok (false, t ∷ ts)
 
--- whether a declaration ends there: before a `;` or, in a block, before a `}`; and at the end of an inline text
-abbrev pub is_end : Bool → List Lexeme → Bool
-is_end inline [] = inline
-is_end inline (t ∷ ts) = is_mark 59 t.kind || (not inline && is_mark 125 t.kind)
+-- what stands before the end of a declaration: its name, the place of its first value, and what its values stand for
+pub record Spelled : Type 0 where
+  pub name : Lexeme
+  pub first : ℕ
+  pub stand : List Lexeme
+  pub important : Bool
 
--- the declarations that it stands for; else the fault is met at its end and told of its first value
-abbrev pub told : ℕ → Bool → Result (List Pair) ValueFault → Reads (List DeclarationValue)
-told first important (Ok pairs) ts = Ok (important_pairs important pairs, ts)
-told first important (Err fault) ts = Err (record { kind = BadValue; place = Some first }, ts)
-
-abbrev pub ended : Bool → Lexeme → ℕ → List Lexeme → Bool → Reads (List DeclarationValue)
-ended inline name first stand important ts = if is_end inline ts then told first important (declaration name.bytes stand) ts else expected ts
+abbrev pub spelled : Lexeme → ℕ → List Lexeme → Bool → Spelled
+spelled name first stand important = record { name = name; first = first; stand = stand; important = important }
 
 -- behind the name of a property
-unfoldable pub behind_name : Bool → Defined → Lexeme → List Lexeme → Read (List DeclarationValue)
-behind_name inline defined name ts =
-    in_turn (mark_at 58) (λ colon. in_turn first_value_at (λ first. in_turn (values_at defined) (λ stand. in_turn importance_at (ended inline name first stand)))) ts
+unfoldable pub spelled_at : Defined → Lexeme → List Lexeme → Read Spelled
+spelled_at defined name ts =
+    in_turn (mark_at 58) (λ colon. in_turn first_value_at (λ first. in_turn (values_at defined) (λ stand. in_turn importance_at (λ important. give (spelled name first stand important))))) ts
 
-abbrev pub declaration_at : Bool → Defined → List Lexeme → Read (List DeclarationValue)
+-- whether a body ends there: a block before its `}`, and an inline text at its end
+abbrev pub ends_body : Bool → List Lexeme → Bool
+ends_body inline [] = inline
+ends_body inline (t ∷ ts) = not inline && is_mark 125 t.kind
+
+-- whether a declaration ends there: before a `;` and where the body ends
+abbrev pub is_end : Bool → List Lexeme → Bool
+is_end inline ts = first_is (is_mark 59) ts || ends_body inline ts
+
+-- the declarations that it stands for; else the fault is met at its end and told of its first value
+abbrev pub told : Spelled → Result (List Pair) ValueFault → Reads (List DeclarationValue)
+told s (Ok pairs) ts = Ok (important_pairs s.important pairs, ts)
+told s (Err fault) ts = Err (record { kind = BadValue; place = Some s.first }, ts)
+
+abbrev pub ended : Bool → Spelled → Reads (List DeclarationValue)
+ended inline s ts = if is_end inline ts then told s (declaration s.name.bytes s.stand) ts else expected ts
+
+unfoldable pub declaration_at : Bool → Defined → List Lexeme → Read (List DeclarationValue)
 declaration_at inline defined [] = expected []
 declaration_at inline defined (t ∷ ts) =
-    if is_name_token t.kind then (if is_known t.bytes then behind_name inline defined t ts else met UnknownProperty (t ∷ ts))
+    if is_name_token t.kind then (if is_known t.bytes then in_turn (spelled_at defined t) (ended inline) ts else met UnknownProperty (t ∷ ts))
     else expected (t ∷ ts)
+
+-- ---- bodies
 
 abbrev pub with_declarations : List DeclarationValue → Body → Body
 with_declarations declarations body = record { declarations = body.declarations ++ declarations; written = counted body.written 1 }
 
--- behind spaces and comments: a `;`, a declaration, or the end, which is the `}` of a block, which is taken, or the end of an
--- inline text
+-- a `;` or a declaration, behind what was found before
+unfoldable pub item_at : Bool → Defined → Body → List Lexeme → Read Body
+item_at inline defined found [] = expected []
+item_at inline defined found (t ∷ ts) =
+    if is_mark 59 t.kind then Ok (found, ts)
+    else in_turn (declaration_at inline defined) (λ declarations. give (with_declarations declarations found)) (t ∷ ts)
+
+-- past the `}` of a block
+abbrev pub past_end : Bool → List Lexeme → List Lexeme
+past_end true ts = ts
+past_end false ts = drop 1 ts
+
+-- behind spaces and comments: the end, or one item and more
 abbrev pub next_in_body : (Body → Reads Body) → Bool → Defined → Body → Reads Body
-next_in_body more inline defined found [] = if inline then Ok (found, []) else expected []
-next_in_body more inline defined found (t ∷ ts) =
-    if is_mark 59 t.kind then more found ts
-    else if not inline && is_mark 125 t.kind then Ok (found, ts)
-    else in_turn (declaration_at inline defined) (λ declarations. more (with_declarations declarations found)) (t ∷ ts)
+next_in_body more inline defined found ts = if ends_body inline ts then Ok (found, past_end inline ts) else in_turn (item_at inline defined found) more ts
 
 -- Declarations and `;` behind those found before, up to the end. There are at most so many.
 unfoldable pub body_from : ℕ → Bool → Defined → Body → List Lexeme → Read Body
@@ -157,25 +178,33 @@ as_selector (Err fault) = met (kind_of fault.0) fault.1
 unfoldable pub spaced_selector_at : List Lexeme → Read Selector
 spaced_selector_at ts = as_selector (selector_at (past_blanks ts))
 
--- behind a selector: a comma and further selectors, or a `{`, which is taken
-abbrev pub behind_selector : (List Selector → Reads (List Selector)) → List Selector → Reads (List Selector)
-behind_selector more found [] = expected []
-behind_selector more found (t ∷ ts) =
-    if is_mark 44 t.kind then more found ts
-    else if is_mark 123 t.kind then Ok (found, ts)
+-- behind a selector: whether further ones come, behind a comma, or none, behind a `{`
+unfoldable pub goes_on_at : List Lexeme → Read Bool
+goes_on_at [] = expected []
+goes_on_at (t ∷ ts) =
+    if is_mark 44 t.kind then Ok (true, ts)
+    else if is_mark 123 t.kind then Ok (false, ts)
     else expected (t ∷ ts)
+
+abbrev pub then_selectors : (List Selector → Reads (List Selector)) → List Selector → Bool → Reads (List Selector)
+then_selectors more found true = more found
+then_selectors more found false = give found
 
 -- Selectors behind those found before, at most so many, with a comma between two, and the `{` behind them.
 unfoldable pub selectors_from : ℕ → List Selector → List Lexeme → Read (List Selector)
 selectors_from zero found ts = expected (past_blanks ts)
-selectors_from (suc most) found ts = in_turn spaced_selector_at (λ selector. behind_selector (selectors_from most) (found ++ (selector ∷ []))) ts
+selectors_from (suc most) found ts =
+    in_turn spaced_selector_at (λ selector. in_turn goes_on_at (then_selectors (selectors_from most) (found ++ (selector ∷ [])))) ts
+
+unfoldable pub selectors_at : List Lexeme → Read (List Selector)
+selectors_at ts = selectors_from 64 [] ts
 
 -- the rule, and how many declarations were written in it
 abbrev pub rule_of : List Selector → Body → RuleValue × ℕ
 rule_of selectors body = (record { selectors = selectors; declarations = body.declarations }, body.written)
 
 unfoldable pub rule_at : Defined → List Lexeme → Read (RuleValue × ℕ)
-rule_at defined ts = in_turn (selectors_from 64 []) (λ selectors. in_turn (body_at false defined) (λ body. give (rule_of selectors body))) ts
+rule_at defined ts = in_turn selectors_at (λ selectors. in_turn (body_at false defined) (λ body. give (rule_of selectors body))) ts
 
 -- ---- variables
 
@@ -186,24 +215,30 @@ definition_at defined ts = in_turn (mark_at 58) (λ colon. in_turn (values_at de
 -- ---- sheets
 
 -- a variable, whose name has at most 64 bytes
-abbrev pub variable_in_sheet : (Found → Reads Found) → Found → Lexeme → Reads Found
-variable_in_sheet more found name ts =
-    if is_name (drop 1 name.bytes) then in_turn (definition_at found.defined) (λ stand. more (with_variable (drop 1 name.bytes) stand found)) ts
-    else expected (name ∷ ts)
+unfoldable pub variable_in_sheet : Found → List Lexeme → Read Found
+variable_in_sheet found [] = expected []
+variable_in_sheet found (t ∷ ts) =
+    if is_name (drop 1 t.bytes) then in_turn (definition_at found.defined) (λ stand. give (with_variable (drop 1 t.bytes) stand found)) ts
+    else expected (t ∷ ts)
 
 -- a rule, where fewer than 10,000 stand before it
-abbrev pub rule_in_sheet : (Found → Reads Found) → Found → Reads Found
-rule_in_sheet more found ts =
-    if nat_lt (length found.rules) 10000 then in_turn (rule_at found.defined) (λ rule. more (with_rule rule.0 rule.1 found)) ts
+unfoldable pub rule_in_sheet : Found → List Lexeme → Read Found
+rule_in_sheet found ts =
+    if nat_lt (length found.rules) 10000 then in_turn (rule_at found.defined) (λ rule. give (with_rule rule.0 rule.1 found)) ts
     else met TooManyRules ts
 
--- behind spaces and comments: a variable, a rule, or the end
+-- a variable or a rule, behind what was found before
+unfoldable pub part_at : Found → List Lexeme → Read Found
+part_at found [] = expected []
+part_at found (t ∷ ts) =
+    if is_variable t.kind then variable_in_sheet found (t ∷ ts)
+    else if begins_compound t.kind then rule_in_sheet found (t ∷ ts)
+    else expected (t ∷ ts)
+
+-- behind spaces and comments: the end, or one part and more
 abbrev pub next_in_sheet : (Found → Reads Found) → Found → Reads Found
 next_in_sheet more found [] = Ok (found, [])
-next_in_sheet more found (t ∷ ts) =
-    if is_variable t.kind then variable_in_sheet more found t ts
-    else if begins_compound t.kind then rule_in_sheet more found (t ∷ ts)
-    else expected (t ∷ ts)
+next_in_sheet more found (t ∷ ts) = in_turn (part_at found) more (t ∷ ts)
 
 -- Variables and rules behind what was found before, up to the end. There are at most so many.
 unfoldable pub sheet_from : ℕ → Found → List Lexeme → Read Found

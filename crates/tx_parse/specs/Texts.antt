@@ -10,7 +10,8 @@ use Rattle.tx_lex.specs.declared.token.Scanned.{Scanned}
 use Rattle.tx_lex.specs.declared.token.Token.{Token}
 use Rattle.tx_parse.specs.Values.{DeclarationValue, SheetValue}
 use Rattle.tx_parse.specs.Grammar.{Body, Found, IsSheet, IsBody}
-use Rattle.tx_parse.specs.Reads.{Read, Wrong, sheet_at, inline_at}
+use Rattle.tx_parse.specs.declared.fault.Wrong.{Wrong}
+use Rattle.tx_parse.specs.Reads.{Read, sheet_at, inline_at}
 use Rattle.tx_parse.specs.Places.{line_of, column_of}
 use Rattle.tx_parse.specs.declared.fault.SheetKind.{SheetKind}
 use Rattle.tx_parse.specs.declared.fault.SheetKind.TheVariants.{Unclosed, BadByte, NumberTooLong}

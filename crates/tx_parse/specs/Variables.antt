@@ -1,5 +1,6 @@
 -- Variables, and the tokens that values stand for.
 use Rattle.std.specs.Prelude.{ℕ, Bool, ◌||◌, not, List, [], ◌∷◌, ◌++◌, drop, filter, Option, Some, None, is_some, if◌then◌else◌}
+use Rattle.std.specs.Map.{lookup}
 use Rattle.std.specs.Str.{bytes_eq}
 use Rattle.indexmap.specs.IndexMap.{insert_entry}
 use Rattle.tx_lex.specs.Lexemes.{Lexeme, is_blank, is_name_token, is_hash, is_variable, is_number, is_mark}
@@ -17,10 +18,9 @@ is_value kind = is_name_token kind || (is_hash kind || (is_number kind || (is_va
 abbrev pub Defined : Type 0
 Defined = List (List ℕ × List Lexeme)
 
--- the tokens of the latest definition
-abbrev pub latest : List ℕ → Defined → Option (List Lexeme)
-latest name [] = None
-latest name (entry ∷ entries) = if bytes_eq name entry.0 then Some entry.1 else latest name entries
+-- what the latest definition says
+abbrev pub latest : {V : Type 0} → List ℕ → List (List ℕ × V) → Option V
+latest name entries = lookup (bytes_eq name) entries
 
 -- a variable defined, or defined anew
 abbrev pub with_definition : List ℕ → List Lexeme → Defined → Defined

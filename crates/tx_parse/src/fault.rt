@@ -1,6 +1,8 @@
 //! Why no sheet was read.
-ghost use Rattle.std.specs.Prelude.{◌≡◌};
+ghost use Rattle.std.specs.Prelude.{◌≡◌, None};
 ghost use Rattle.tx_parse.specs.declared.fault.SheetFault.TheVariants.{NoMemory as no_memory};
+ghost use Rattle.tx_parse.specs.declared.fault.SheetKind.TheVariants.{Expected};
+ghost use Rattle.tx_parse.specs.declared.fault.Stop.TheVariants.{At};
 
 use std::alloc::AllocError;
 use thiserror::Error;
@@ -63,4 +65,38 @@ impl From<AllocError> for SheetFault {
     fn from(_: AllocError) -> SheetFault {
         SheetFault::NoMemory
     }
+}
+
+/// What is wrong, and the offset of the byte that is told, where this isn't the first of the token
+/// at which it is met.
+#[derive(Clone, Copy, Debug)]
+pub struct Wrong {
+    pub kind: SheetKind,
+    pub place: Option<u32>,
+}
+
+/// Why a reader stops.
+#[derive(Clone, Copy, Debug)]
+pub enum Stop {
+    /// A fault that is met at the token of this number.
+    At { wrong: Wrong, at: usize },
+    /// Want of memory.
+    Memory,
+}
+
+/// A fault that is told of the token at which it is met.
+pub fn met(kind: SheetKind, at: usize) -> Stop
+    ensures { result ≡ At (record { kind = kind; place = None }) at }
+{
+    Stop::At {
+        wrong: Wrong { kind, place: None },
+        at,
+    }
+}
+
+/// A token that the grammar doesn't allow.
+pub fn expected(at: usize) -> Stop
+    ensures { result ≡ At (record { kind = Expected; place = None }) at }
+{
+    met(SheetKind::Expected, at)
 }

@@ -3,12 +3,17 @@
 //! [`read_sheet`] reads the bytes of a sheet, and [`read_inline`] the declarations of one row's own.
 #![tactic(auto)]
 
+mod blocks;
+mod declarations;
 mod default;
 mod fault;
 pub mod laws;
 mod places;
 mod sheet;
 mod texts;
+mod tokens;
+mod values;
+mod variables;
 
 pub use default::DEFAULT_SHEET;
 pub use fault::{SheetFault, SheetKind};
