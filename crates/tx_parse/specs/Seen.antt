@@ -1,7 +1,9 @@
 -- What the parts that the readers keep stand for, over the text that they are read of.
-use Rattle.std.specs.Prelude.{ℕ, List, map}
+use Rattle.std.specs.Prelude.{ℕ, List, map, Vec}
+use Rattle.std.specs.declared.alloc.Global.{Global}
 use Rattle.tx_lex.specs.Lexemes.{Lexeme, lexeme, lexemes}
 use Rattle.tx_lex.specs.declared.token.Token.{Token}
+use Rattle.tx_select.specs.declared.value.Selector.{Selector}
 use Rattle.tx_parse.specs.Grammar.{Body}
 use Rattle.tx_parse.specs.Reads.{Spelled}
 use Rattle.tx_parse.specs.Values.{DeclarationValue, important_pairs}
@@ -26,3 +28,6 @@ declarations_in written = important_pairs written.important written.pairs.items
 
 abbrev pub body_of : Block → Body
 body_of block = record { declarations = block.declarations.items; written = block.written }
+
+abbrev pub selectors_in : Vec Selector Global → List Selector
+selectors_in selectors = selectors.items

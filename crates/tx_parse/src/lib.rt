@@ -9,6 +9,7 @@ mod default;
 mod fault;
 pub mod laws;
 mod places;
+mod rules;
 mod sheet;
 mod texts;
 mod tokens;

@@ -1,0 +1,59 @@
+-- The steps of reading the selectors of a rule.
+use Rattle.std.proofs.Common.{◌≡◌, ℕ, suc, Bool, true, false, List, [], ◌∷◌, ◌++◌, Ok, Err, ap, sym, ◌∙◌}
+use Rattle.tx_lex.specs.Lexemes.{Lexeme, lexemes_from}
+use Rattle.tx_lex.specs.declared.token.Token.{Token}
+use Rattle.tx_read.specs.Reading.{in_turn}
+use Rattle.tx_select.specs.declared.value.Selector.{Selector}
+use Rattle.tx_parse.specs.Answers.{GivesAs, GivesSame}
+use Rattle.tx_parse.specs.Reads.{Reads, Read, past_blanks, expected, spaced_selector_at, goes_on_at, then_selectors, selectors_from}
+use Rattle.tx_parse.specs.Seen.{selectors_in}
+use Rattle.tx_parse.specs.declared.fault.Stop.{Stop}
+use Rattle.tx_parse.specs.declared.fault.Stop.TheVariants.{At, Memory}
+use Rattle.tx_parse.specs.declared.fault.Wrong.{Wrong}
+use Rattle.tx_parse.proofs.Turns.{turn_ok, turn_err}
+
+abbrev pub behind_one : ℕ → List Selector → Selector → Reads (List Selector)
+behind_one most found selector = in_turn goes_on_at (then_selectors (selectors_from most) (found ++ (selector ∷ [])))
+
+-- one selector
+one : (most rest : ℕ) (found : List Selector) (start : Read (List Selector)) (here next : List Lexeme) (selector : Selector) → most ≡ suc rest → selectors_from most found here ≡ start
+    → spaced_selector_at here ≡ Ok (selector, next) → start ≡ behind_one rest found selector next
+unfolding selectors_from
+one most rest found start here next selector count so_far is =
+    sym so_far ∙ ap (λ n. selectors_from n found here) count ∙ turn_ok spaced_selector_at (behind_one rest found) here next selector is
+
+-- one selector, and what follows it
+one_then : (most rest : ℕ) (found : List Selector) (start : Read (List Selector)) (here next behind : List Lexeme) (selector : Selector) (more : Bool) → most ≡ suc rest → selectors_from most found here ≡ start
+    → spaced_selector_at here ≡ Ok (selector, next) → goes_on_at next ≡ Ok (more, behind) → start ≡ then_selectors (selectors_from rest) (found ++ (selector ∷ [])) more behind
+one_then most rest found start here next behind selector more count so_far is then =
+    one most rest found start here next selector count so_far is ∙ turn_ok goes_on_at (then_selectors (selectors_from rest) (found ++ (selector ∷ []))) next behind more then
+
+pub selectors_next : (most rest : ℕ) (found : List Selector) (start : Read (List Selector)) (here next behind : List Lexeme) (selector : Selector) (more : Bool) (all : List Selector) → most ≡ suc rest → selectors_from most found here ≡ start
+    → spaced_selector_at here ≡ Ok (selector, next) → goes_on_at next ≡ Ok (more, behind) → more ≡ true → all ≡ found ++ (selector ∷ []) → selectors_from rest all behind ≡ start
+selectors_next most rest found start here next behind selector more all count so_far is then yes_more pushed =
+    ap (λ f. selectors_from rest f behind) pushed
+    ∙ sym (one_then most rest found start here next behind selector more count so_far is then ∙ ap (λ m. then_selectors (selectors_from rest) (found ++ (selector ∷ [])) m behind) yes_more)
+
+pub selectors_last : (most rest : ℕ) (found : List Selector) (start : Read (List Selector)) (here next behind : List Lexeme) (selector : Selector) (more : Bool) (all : List Selector) → most ≡ suc rest → selectors_from most found here ≡ start
+    → spaced_selector_at here ≡ Ok (selector, next) → goes_on_at next ≡ Ok (more, behind) → more ≡ false → all ≡ found ++ (selector ∷ []) → start ≡ Ok (all, behind)
+selectors_last most rest found start here next behind selector more all count so_far is then no_more pushed =
+    one_then most rest found start here next behind selector more count so_far is then ∙ ap (λ m. then_selectors (selectors_from rest) (found ++ (selector ∷ [])) m behind) no_more
+    ∙ ap (λ f. Ok (f, behind)) (sym pushed)
+
+pub selectors_bad : (text : List ℕ) (tokens : List Token) (most rest : ℕ) (found : List Selector) (start : Read (List Selector)) (here : List Lexeme) (stop : Stop) → most ≡ suc rest → selectors_from most found here ≡ start
+    → GivesSame {A = Selector} text tokens (Err stop) (spaced_selector_at here) → GivesAs selectors_in text tokens (Err stop) start
+unfolding selectors_from
+selectors_bad text tokens most rest found start here (At wrong at) count so_far is =
+    sym so_far ∙ ap (λ n. selectors_from n found here) count ∙ turn_err spaced_selector_at (behind_one rest found) here (wrong, lexemes_from text tokens at) is
+selectors_bad text tokens most rest found start here Memory count so_far is = tt
+
+pub selectors_stop : (text : List ℕ) (tokens : List Token) (most rest : ℕ) (found : List Selector) (start : Read (List Selector)) (here next : List Lexeme) (selector : Selector) (stop : Stop) → most ≡ suc rest → selectors_from most found here ≡ start
+    → spaced_selector_at here ≡ Ok (selector, next) → GivesSame {A = Bool} text tokens (Err stop) (goes_on_at next) → GivesAs selectors_in text tokens (Err stop) start
+selectors_stop text tokens most rest found start here next selector (At wrong at) count so_far is then =
+    one most rest found start here next selector count so_far is ∙ turn_err goes_on_at (then_selectors (selectors_from rest) (found ++ (selector ∷ []))) next (wrong, lexemes_from text tokens at) then
+selectors_stop text tokens most rest found start here next selector Memory count so_far is then = tt
+
+-- the selector past the last one that is allowed
+pub selectors_past : (most : ℕ) (found : List Selector) (start : Read (List Selector)) (here : List Lexeme) → most ≡ 0 → selectors_from most found here ≡ start → start ≡ expected (past_blanks here)
+unfolding selectors_from
+selectors_past most found start here none so_far = sym so_far ∙ ap (λ n. selectors_from n found here) none
