@@ -4,10 +4,11 @@ use Rattle.std.specs.declared.alloc.Global.{Global}
 use Rattle.tx_lex.specs.Lexemes.{Lexeme, lexeme, lexemes}
 use Rattle.tx_lex.specs.declared.token.Token.{Token}
 use Rattle.tx_select.specs.declared.value.Selector.{Selector}
-use Rattle.tx_parse.specs.Grammar.{Body}
+use Rattle.tx_parse.specs.Grammar.{Body, Found}
 use Rattle.tx_parse.specs.Reads.{Spelled}
 use Rattle.tx_parse.specs.Values.{DeclarationValue, important_pairs}
 use Rattle.tx_parse.specs.Variables.{Defined}
+use Rattle.tx_parse.specs.declared.sheets.Gathered.{Gathered}
 use Rattle.tx_parse.specs.declared.blocks.Block.{Block}
 use Rattle.tx_parse.specs.declared.declarations.Spelling.{Spelling}
 use Rattle.tx_parse.specs.declared.declarations.Written.{Written}
@@ -31,3 +32,6 @@ body_of block = record { declarations = block.declarations.items; written = bloc
 
 abbrev pub selectors_in : Vec Selector Global → List Selector
 selectors_in selectors = selectors.items
+
+abbrev pub found_in : List ℕ → Gathered → Found
+found_in text g = record { defined = defined_in text g.variables; rules = g.rules.items; variables = g.defined; written = g.written }

@@ -11,6 +11,7 @@ pub mod laws;
 mod places;
 mod rules;
 mod sheet;
+mod sheets;
 mod texts;
 mod tokens;
 mod values;

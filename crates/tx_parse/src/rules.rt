@@ -1,5 +1,5 @@
 //! Rules: selectors and a block.
-ghost use Rattle.std.specs.Prelude.{◌≡◌, ◌≤◌, ◌<◌, length, IfOk};
+ghost use Rattle.std.specs.Prelude.{◌≡◌};
 ghost use Rattle.tx_lex.specs.Lexemes.{lexemes_from};
 ghost use Rattle.tx_parse.specs.Answers.{GivesAs, GivesSame};
 ghost use Rattle.tx_parse.specs.Reads.{kind_of, spaced_selector_at, goes_on_at, selectors_at, rule_of, rule_at};

@@ -1,0 +1,213 @@
+//! Variables and rules one behind another.
+ghost use Rattle.std.specs.Prelude.{◌≡◌, ◌≤◌, ◌<◌, length, drop, Some, IfOk, IfErr};
+ghost use Rattle.tx_lex.specs.Lexemes.{token_bytes, lexeme, lexemes, lexemes_from, IsNth};
+ghost use Rattle.tx_parse.specs.Answers.{GivesAs, tokens_in};
+ghost use Rattle.tx_parse.specs.Grammar.{nothing_found, with_variable, with_rule};
+ghost use Rattle.tx_parse.specs.Reads.{definition_at, variable_in_sheet, rule_in_sheet, part_at, sheet_at};
+ghost use Rattle.tx_parse.specs.Seen.{defined_in, found_in};
+
+use crate::blocks::counted;
+use crate::fault::{SheetKind, Stop, expected, met};
+use crate::rules::rule;
+use crate::sheet::Rule;
+use crate::tokens::{mark, past_blanks};
+use crate::values::values;
+use crate::variables::{Variables, variable_name};
+use std::alloc::{AllocError, Global};
+use tx_lex::{Token, TokenList, token_at};
+use tx_select::begins_compound;
+use tx_tree::Name;
+
+// The most rules of a sheet.
+const MOST_RULES: usize = 10_000;
+
+/// What a sheet has up to a place.
+#[derive(Drop)]
+pub struct Gathered {
+    pub variables: Variables,
+    pub rules: Vec<Rule>,
+    /// How many variables were defined.
+    pub defined: u32,
+    /// How many declarations were written.
+    pub written: u32,
+}
+
+/// Nothing so far.
+fn nothing_found(alloc: Global, text: &[u8]) -> Gathered
+    ensures { found_in text.now result ≡ nothing_found }
+{
+    Gathered {
+        variables: Variables::none(alloc),
+        rules: Vec::new(alloc),
+        defined: 0,
+        written: 0,
+    }
+}
+
+/// What stands behind the name of a variable that is defined.
+#[tactic(auto, unfolding(crate::specs::Reads::definition_at))]
+fn definition(
+    alloc: Global,
+    text: &[u8],
+    tokens: &[Token],
+    at: usize,
+    variables: &Variables,
+) -> Result<(Vec<Token>, usize), Stop>
+    ensures { GivesAs (tokens_in text.now) text.now tokens.now result (definition_at (defined_in text.now variables.now) (lexemes_from text.now tokens.now at)) }
+{
+    let colon = match mark(text, tokens, at, b':') {
+        Ok(colon) => colon,
+        Err(stop) => return Err(stop),
+    };
+    let stand = match values(alloc, text, tokens, colon.1, variables) {
+        Ok(stand) => stand,
+        Err(stop) => return Err(stop),
+    };
+    match mark(text, tokens, stand.1, b';') {
+        Ok(end) => Ok((stand.0, end.1)),
+        Err(stop) => Err(stop),
+    }
+}
+
+/// What was found, with this variable.
+#[tactic(auto, using(crate::proofs::Definitions::insert_in))]
+fn with_variable(
+    text: &[u8],
+    found: Gathered,
+    name: Name,
+    stand: Vec<Token>,
+) -> Result<Gathered, AllocError>
+    ensures { IfOk result (λ all. found_in text.now all ≡ with_variable name (tokens_in text.now stand) (found_in text.now found)) }
+{
+    let Gathered {
+        variables,
+        rules,
+        defined,
+        written,
+    } = found;
+    match variables.define(name, TokenList::of(stand)) {
+        Ok(variables) => Ok(Gathered {
+            variables,
+            rules,
+            defined: counted(defined, 1),
+            written,
+        }),
+        Err(error) => Err(error),
+    }
+}
+
+/// A variable, whose name has at most 64 bytes.
+#[tactic(auto, unfolding(crate::specs::Reads::variable_in_sheet))]
+fn variable(
+    alloc: Global,
+    text: &[u8],
+    tokens: &[Token],
+    at: usize,
+    token: Token,
+    found: Gathered,
+) -> Result<(Gathered, usize), Stop>
+    requires { IsNth tokens.now at (Some token) }
+    ensures { GivesAs (found_in text.now) text.now tokens.now result (variable_in_sheet (found_in text.now found) (lexemes_from text.now tokens.now at)) }
+{
+    let Some(name) = variable_name(text, token) else {
+        return Err(expected(at));
+    };
+    let stand = match definition(alloc, text, tokens, at + 1, &found.variables) {
+        Ok(stand) => stand,
+        Err(stop) => return Err(stop),
+    };
+    match with_variable(text, found, name, stand.0) {
+        Ok(all) => Ok((all, stand.1)),
+        Err(_) => Err(Stop::Memory),
+    }
+}
+
+/// What was found, with this rule, in which so many declarations were written.
+fn with_rule(
+    text: &[u8],
+    found: Gathered,
+    rule: (Rule, u32),
+) -> Result<Gathered, AllocError>
+    ensures { IfOk result (λ all. found_in text.now all ≡ with_rule rule.0 rule.1 (found_in text.now found)) }
+{
+    let Gathered {
+        variables,
+        rules,
+        defined,
+        written,
+    } = found;
+    let mut all = rules;
+    match all.push(rule.0) {
+        Ok(()) => Ok(Gathered {
+            variables,
+            rules: all,
+            defined,
+            written: counted(written, rule.1),
+        }),
+        Err(_) => Err(AllocError),
+    }
+}
+
+/// A rule, where fewer than 10,000 stand before it.
+#[tactic(auto, unfolding(crate::specs::Reads::rule_in_sheet))]
+fn rule_in_sheet(
+    alloc: Global,
+    text: &[u8],
+    tokens: &[Token],
+    at: usize,
+    found: Gathered,
+) -> Result<(Gathered, usize), Stop>
+    ensures { GivesAs (found_in text.now) text.now tokens.now result (rule_in_sheet (found_in text.now found) (lexemes_from text.now tokens.now at)) }
+{
+    if found.rules.len() >= MOST_RULES {
+        return Err(met(SheetKind::TooManyRules, at));
+    }
+    let read = match rule(alloc, text, tokens, at, &found.variables) {
+        Ok(read) => read,
+        Err(stop) => return Err(stop),
+    };
+    match with_rule(text, found, read.0) {
+        Ok(all) => Ok((all, read.1)),
+        Err(_) => Err(Stop::Memory),
+    }
+}
+
+/// A variable or a rule, behind what was found before.
+#[tactic(auto, unfolding(crate::specs::Reads::part_at))]
+fn part(
+    alloc: Global,
+    text: &[u8],
+    tokens: &[Token],
+    at: usize,
+    first: Token,
+    found: Gathered,
+) -> Result<(Gathered, usize), Stop>
+    requires { IsNth tokens.now at (Some first) }
+    ensures { GivesAs (found_in text.now) text.now tokens.now result (part_at (found_in text.now found) (lexemes_from text.now tokens.now at)) }
+{
+    if first.kind.is_variable() {
+        return variable(alloc, text, tokens, at, first, found);
+    }
+    if begins_compound(first.kind) {
+        return rule_in_sheet(alloc, text, tokens, at, found);
+    }
+    Err(expected(at))
+}
+
+/// The variables and rules of a whole sheet.
+pub fn sheet(alloc: Global, text: &[u8], tokens: &[Token]) -> Result<(Gathered, usize), Stop>
+    ensures { GivesAs (found_in text.now) text.now tokens.now result (sheet_at (lexemes_from text.now tokens.now 0)) }
+{
+    let mut found = nothing_found(alloc, text);
+    let mut behind = past_blanks(tokens, 0);
+    while let Some(first) = token_at(tokens, behind) {
+        match part(alloc, text, tokens, behind, first, found) {
+            Ok(more) => {
+                found = more.0;
+                behind = past_blanks(tokens, more.1);
+            }
+            Err(stop) => return Err(stop),
+        }
+    }
+    Ok((found, behind))
+}
