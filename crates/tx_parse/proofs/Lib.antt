@@ -1,6 +1,11 @@
 pub mod BodySteps
 pub mod Cases
 pub mod Definitions
+pub mod Local
+pub mod LocalBodies
+pub mod LocalSheets
+pub mod Scans
 pub mod SelectorSteps
+pub mod SheetSteps
 pub mod Turns
 pub mod ValueSteps

@@ -13,13 +13,14 @@ begins_character byte = not (nat_le 128 byte && nat_le byte 191)
 abbrev pub line_feeds : List ℕ → ℕ
 line_feeds bytes = count_by is_line_feed bytes
 
--- how many characters stand behind the last line feed, where so many stood before these bytes
+-- how many characters stand behind the last line feed, with this byte, where so many stood before it
+abbrev pub characters_with : ℕ → ℕ → ℕ
+characters_with count byte = if is_line_feed byte then 0 else if begins_character byte then count + 1 else count
+
+-- the same with all these bytes
 abbrev pub characters_from : ℕ → List ℕ → ℕ
 characters_from count [] = count
-characters_from count (byte ∷ bytes) =
-    if is_line_feed byte then characters_from 0 bytes
-    else if begins_character byte then characters_from (count + 1) bytes
-    else characters_from count bytes
+characters_from count (byte ∷ bytes) = characters_from (characters_with count byte) bytes
 
 -- numbers from 1, which stand still at 4,294,967,295
 abbrev pub from_one : ℕ → ℕ

@@ -33,6 +33,7 @@ pub struct Gathered {
 }
 
 /// Nothing so far.
+#[tactic(auto, unfolding(crate::specs::Seen::defined_in))]
 fn nothing_found(alloc: Global, text: &[u8]) -> Gathered
     ensures { found_in text.now result ≡ nothing_found }
 {
