@@ -3,7 +3,7 @@ use Rattle.std.proofs.Common.{◌≡◌, ℕ, Bool, List, [], ◌∷◌, Ok, Err
 use Rattle.tx_read.specs.Reading.{◌>>=◌, in_turn}
 use Rattle.tx_lex.specs.Lexemes.{Lexeme, lexemes_from}
 use Rattle.tx_lex.specs.declared.token.Token.{Token}
-use Rattle.tx_parse.specs.Answers.{GivesAs, GivesSame, tokens_in}
+use Rattle.tx_parse.specs.Answers.{GivesAs, GivesSame, gathered_in}
 use Rattle.tx_parse.specs.Seen.{spelled_in}
 use Rattle.tx_parse.specs.declared.fault.Stop.{Stop}
 use Rattle.tx_parse.specs.declared.fault.Stop.TheVariants.{At, Memory}
@@ -48,7 +48,7 @@ spelled_ok defined name colon ts behind here stand rest last first important is 
     ∙ ap (λ n. Ok (spelled name n stand important, last)) (sym place)
 
 pub spelled_bad_values : (text : List ℕ) (tokens : List Token) (defined : Defined) (name colon : Lexeme) (ts behind here : List Lexeme) (stop : Stop) → mark_at 58 ts ≡ Ok (colon, behind) → here ≡ past_blanks behind
-    → GivesAs (tokens_in text) text tokens (Err stop) (values_at defined here) → GivesAs (spelled_in text) text tokens (Err stop) (spelled_at defined name ts)
+    → GivesAs (gathered_in text) text tokens (Err stop) (values_at defined here) → GivesAs (spelled_in text) text tokens (Err stop) (spelled_at defined name ts)
 spelled_bad_values text tokens defined name colon ts behind here (At wrong at) is past values =
     to_values defined name colon ts behind here is past ∙ turn_err (values_at defined) (behind_values name (place_of here)) here (wrong, lexemes_from text tokens at) values
 spelled_bad_values text tokens defined name colon ts behind here Memory is past values = tt

@@ -5,7 +5,7 @@ use Rattle.tx_lex.specs.declared.token.Token.{Token}
 use Rattle.tx_read.specs.Reading.{◌>>=◌}
 use Rattle.tx_parse.specs.Reads.{Read, past_blanks, added, values_from, met}
 use Rattle.tx_parse.specs.Variables.{Defined, is_value, stands_for}
-use Rattle.tx_parse.specs.Answers.{GivesAs, tokens_in}
+use Rattle.tx_parse.specs.Answers.{GivesAs, gathered_in}
 use Rattle.tx_parse.specs.declared.fault.Stop.{Stop}
 use Rattle.tx_parse.specs.declared.fault.Stop.TheVariants.{At, Memory}
 use Rattle.tx_parse.specs.declared.fault.Wrong.{Wrong}
@@ -106,7 +106,7 @@ values_end defined found here start so_far is =
     sym so_far.same ∙ ap (values_from defined found) is ∙ values_none defined found ∙ ap (λ r. Ok (found, r)) (sym is)
 
 pub values_err : (defined : Defined) (text : List ℕ) (tokens : List Token) (found here start : List Lexeme) (t : Lexeme) (ts : List Lexeme) (stop : Stop) → SoFar defined found here start → here ≡ t ∷ ts
-    → is_value t.kind ≡ true → GivesAs (tokens_in text) text tokens (Err stop) (added found t ts (stands_for defined t)) → GivesAs (tokens_in text) text tokens (Err stop) (values_from defined [] start)
+    → is_value t.kind ≡ true → GivesAs (gathered_in text) text tokens (Err stop) (added found t ts (stands_for defined t)) → GivesAs (gathered_in text) text tokens (Err stop) (values_from defined [] start)
 values_err defined text tokens found here start t ts (At wrong at) so_far is value fault =
     sym so_far.same ∙ ap (values_from defined found) is
     ∙ values_fault defined found t ts (wrong, lexemes_from text tokens at) (sym (ap (first_is is_blank) is) ∙ so_far.first) value fault

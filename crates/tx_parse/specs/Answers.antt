@@ -4,6 +4,8 @@ use Rattle.std.specs.declared.alloc.Global.{Global}
 use Rattle.tx_lex.specs.Lexemes.{Lexeme, lexemes, lexemes_from}
 use Rattle.tx_lex.specs.declared.token.Token.{Token}
 use Rattle.tx_parse.specs.Reads.{Read, ends_body, past_end}
+use Rattle.tx_parse.specs.Texts.{Report, Refuses}
+use Rattle.tx_parse.specs.declared.fault.SheetFault.{SheetFault}
 use Rattle.tx_parse.specs.declared.fault.Stop.{Stop}
 use Rattle.tx_parse.specs.declared.fault.Stop.TheVariants.{At, Memory}
 
@@ -15,8 +17,8 @@ GivesAs view text tokens (Err (At wrong at)) read = read ≡ Err (wrong, lexemes
 GivesAs view text tokens (Err Memory) read = Unit {0}
 
 -- gathered tokens
-abbrev pub tokens_in : List ℕ → Vec Token Global → List Lexeme
-tokens_in text tokens = lexemes text tokens.items
+abbrev pub gathered_in : List ℕ → Vec Token Global → List Lexeme
+gathered_in text tokens = lexemes text tokens.items
 
 -- the same of what is seen as itself
 abbrev pub GivesSame : {A : Type 0} → List ℕ → List Token → Result (A × ℕ) Stop → Read A → Type 0
@@ -26,3 +28,8 @@ GivesSame {A = A} = GivesAs {A = A} {B = A} (λ a. a)
 abbrev pub EndsBody : List ℕ → List Token → Bool → List Lexeme → Option ℕ → Type 0
 EndsBody text tokens inline ts (Some behind) = (ends_body inline ts ≡ true) × (lexemes_from text tokens behind ≡ past_end inline ts)
 EndsBody text tokens inline ts None = ends_body inline ts ≡ false
+
+-- The answer of a whole text is what is read of it, seen so, unless memory is wanting.
+abbrev pub GivesText : {A B : Type 0} → (A → B) → List ℕ → Result A SheetFault → Result B Report → Type 0
+GivesText view bytes (Ok found) read = read ≡ Ok (view found)
+GivesText view bytes (Err fault) read = Refuses bytes fault read

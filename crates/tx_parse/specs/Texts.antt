@@ -65,6 +65,10 @@ judged bytes None (Ok found) = Ok found.0
 judged bytes (Some fault) (Ok found) = Err (of_lexer fault)
 judged bytes fault (Err wrong) = Err (reported bytes fault wrong)
 
+-- a fault with its line and its column
+abbrev pub told : List ℕ → Report → SheetFault
+told bytes report = Text (line_of bytes report.1) (column_of bytes report.1) report.0
+
 -- ---- the readings
 
 unfoldable pub sheet_of : List ℕ → Result Found Report
@@ -84,16 +88,10 @@ pub record IsInlineText (bytes : List ℕ) (body : Body) : Type 0 where
 
 -- ---- the answers
 
--- a fault with its line and its column
-pub record IsTold (bytes : List ℕ) (report : Report) (line column : ℕ) (kind : SheetKind) : Type 0 where
-  pub is_kind : kind ≡ report.0
-  pub at_line : line ≡ line_of bytes report.1
-  pub at_column : column ≡ column_of bytes report.1
-
 -- an answer is the reading, unless memory is wanting
 abbrev pub Refuses : {A : Type 0} → List ℕ → SheetFault → Result A Report → Type 0
 Refuses bytes (Text line column kind) (Ok found) = ⊥
-Refuses bytes (Text line column kind) (Err report) = IsTold bytes report line column kind
+Refuses bytes (Text line column kind) (Err report) = Text line column kind ≡ told bytes report
 Refuses bytes NoMemory read = Unit {0}
 
 abbrev pub GivesInline : List ℕ → Result (Vec DeclarationValue Global) SheetFault → Type 0

@@ -8,6 +8,8 @@ use Rattle.tx_select.specs.declared.value.Part.TheVariants.{Id, Class, Pseudo}
 use Rattle.tx_select.specs.declared.value.Compound.{Compound}
 use Rattle.tx_select.specs.declared.value.Selector.{Selector}
 use Rattle.tx_parse.specs.Values.{RuleValue, SheetValue}
+use Rattle.tx_parse.specs.declared.uses.Sought.{Sought}
+use Rattle.tx_parse.specs.declared.uses.Sought.TheVariants.{OfClass, OfPseudo}
 
 -- whether a part is this class
 abbrev pub is_class : List ℕ → Part → Bool
@@ -20,6 +22,11 @@ abbrev pub is_pseudo : List ℕ → Part → Bool
 is_pseudo name (Id id) = false
 is_pseudo name (Class class) = false
 is_pseudo name (Pseudo pseudo) = bytes_eq (pseudo_name pseudo) name
+
+-- whether it is what is looked for, of this name
+abbrev pub is_sought : Sought → List ℕ → Part → Bool
+is_sought OfClass name part = is_class name part
+is_sought OfPseudo name part = is_pseudo name part
 
 abbrev pub in_compound : (Part → Bool) → Compound → Bool
 in_compound test compound = list_any test compound.parts

@@ -14,6 +14,7 @@ mod sheet;
 mod sheets;
 mod texts;
 mod tokens;
+mod uses;
 mod values;
 mod variables;
 

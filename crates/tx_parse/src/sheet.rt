@@ -3,6 +3,7 @@ ghost use Rattle.std.specs.Prelude.{◌≡◌};
 ghost use Rattle.tx_value.specs.Holds.{HoldsOf};
 ghost use Rattle.tx_parse.specs.Uses.{is_class, is_pseudo, in_sheet};
 
+use crate::uses::{Sought, in_rules};
 use std::marker::Model;
 use tx_select::Selector;
 use tx_tree::Name;
@@ -257,13 +258,13 @@ impl Sheet {
     pub fn uses(&self, name: &Name) -> bool
         ensures { result ≡ in_sheet (is_class name.now) self.now }
     {
-        false
+        in_rules(Sought::OfClass, name, &self.rules) || in_rules(Sought::OfClass, name, &self.defaults)
     }
 
     /// Whether a selector of this sheet or of the default sheet has the pseudo-class of this name.
     pub fn uses_pseudo(&self, name: &Name) -> bool
         ensures { result ≡ in_sheet (is_pseudo name.now) self.now }
     {
-        false
+        in_rules(Sought::OfPseudo, name, &self.rules) || in_rules(Sought::OfPseudo, name, &self.defaults)
     }
 }

@@ -1,7 +1,7 @@
 //! Variables and rules one behind another.
 ghost use Rattle.std.specs.Prelude.{◌≡◌, ◌≤◌, ◌<◌, length, drop, Some, IfOk, IfErr};
 ghost use Rattle.tx_lex.specs.Lexemes.{token_bytes, lexeme, lexemes, lexemes_from, IsNth};
-ghost use Rattle.tx_parse.specs.Answers.{GivesAs, tokens_in};
+ghost use Rattle.tx_parse.specs.Answers.{GivesAs, gathered_in};
 ghost use Rattle.tx_parse.specs.Grammar.{nothing_found, with_variable, with_rule};
 ghost use Rattle.tx_parse.specs.Reads.{definition_at, variable_in_sheet, rule_in_sheet, part_at, sheet_at};
 ghost use Rattle.tx_parse.specs.Seen.{defined_in, found_in};
@@ -54,7 +54,7 @@ fn definition(
     at: usize,
     variables: &Variables,
 ) -> Result<(Vec<Token>, usize), Stop>
-    ensures { GivesAs (tokens_in text.now) text.now tokens.now result (definition_at (defined_in text.now variables.now) (lexemes_from text.now tokens.now at)) }
+    ensures { GivesAs (gathered_in text.now) text.now tokens.now result (definition_at (defined_in text.now variables.now) (lexemes_from text.now tokens.now at)) }
 {
     let colon = match mark(text, tokens, at, b':') {
         Ok(colon) => colon,
@@ -78,7 +78,7 @@ fn with_variable(
     name: Name,
     stand: Vec<Token>,
 ) -> Result<Gathered, AllocError>
-    ensures { IfOk result (λ all. found_in text.now all ≡ with_variable name (tokens_in text.now stand) (found_in text.now found)) }
+    ensures { IfOk result (λ all. found_in text.now all ≡ with_variable name (gathered_in text.now stand) (found_in text.now found)) }
 {
     let Gathered {
         variables,

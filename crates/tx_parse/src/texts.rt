@@ -1,12 +1,200 @@
 //! Sheets and inline texts.
-ghost use Rattle.std.specs.Prelude.{◌≡◌, ◌<◌, ◌^◌, length, IfOk, Ok};
+ghost use Rattle.std.specs.Prelude.{◌≡◌, ◌<◌, ◌^◌, ◌++◌, [], List, length, IfOk, IfErr, Ok};
+ghost use Rattle.tx_lex.specs.Lexemes.{lexemes, lexemes_from};
+ghost use Rattle.tx_lex.specs.Lexing.{lexed};
+ghost use Rattle.tx_parse.specs.Answers.{GivesText};
+ghost use Rattle.tx_parse.specs.Default.{default_rules, sheet_value, GivesSheet, IsReadAs, IsInlineReadAs};
 ghost use Rattle.tx_parse.specs.Grammar.{Body, Found};
-ghost use Rattle.tx_parse.specs.Texts.{IsSheetText, IsInlineText, GivesInline};
-ghost use Rattle.tx_parse.specs.Default.{sheet_value, GivesSheet, IsReadAs, IsInlineReadAs};
+ghost use Rattle.tx_parse.specs.Seen.{body_of, found_in};
+ghost use Rattle.tx_parse.specs.Texts.{last_comment, tokens_of, kind_of, of_lexer, reported, told, sheet_of, inline_of, IsSheetText, IsInlineText, GivesInline};
+ghost use Rattle.tx_parse.specs.declared.fault.SheetFault.TheVariants.{NoMemory};
 
-use crate::fault::SheetFault;
-use crate::sheet::{Declaration, Sheet};
-use std::alloc::Global;
+use crate::blocks::{Block, body};
+use crate::default::DEFAULT_SHEET;
+use crate::fault::{SheetFault, SheetKind, Stop, Wrong};
+use crate::places::{column_of, line_of};
+use crate::sheet::{Declaration, Rules, Sheet};
+use crate::sheets::{Gathered, sheet};
+use crate::variables::Variables;
+use std::alloc::{AllocError, Global};
+use tx_lex::{Fault, LexKind, Scanned, Token, TokenList, scan, token_at};
+
+/// The tokens of bytes up to the first byte at fault, and that fault.
+#[derive(Drop)]
+pub struct AllTokens {
+    pub tokens: Vec<Token>,
+    pub fault: Option<Fault>,
+}
+
+/// The tokens, and the comment in which they end, if they do.
+fn with_comment(tokens: TokenList, fault: Option<Fault>) -> Result<Vec<Token>, AllocError>
+    ensures { IfOk result (λ all. all.items ≡ tokens ++ last_comment fault) }
+{
+    let mut all = tokens.into_vec();
+    let Some(fault) = fault else {
+        return Ok(all);
+    };
+    let Some(comment) = fault.comment else {
+        return Ok(all);
+    };
+    match all.push(comment) {
+        Ok(()) => Ok(all),
+        Err(_) => Err(AllocError),
+    }
+}
+
+/// The tokens of bytes, up to the first byte that is at fault.
+fn all_tokens(alloc: Global, bytes: &[u8]) -> Result<AllTokens, AllocError>
+    requires { length bytes.now < 2 ^ 32 }
+    ensures tokens { IfOk result (λ all. lexemes bytes.now all.tokens.items ≡ tokens_of bytes.now) }
+    ensures fault { IfOk result (λ all. all.fault ≡ (lexed bytes.now).fault) }
+{
+    let Ok(Scanned { tokens, fault }) = scan(alloc, bytes) else {
+        return Err(AllocError);
+    };
+    match with_comment(tokens, fault) {
+        Ok(tokens) => Ok(AllTokens { tokens, fault }),
+        Err(error) => Err(error),
+    }
+}
+
+/// What is wrong in a sheet where this is wrong in a token.
+fn kind_of(kind: LexKind) -> SheetKind
+    ensures { result ≡ kind_of kind }
+{
+    match kind {
+        LexKind::Unclosed => SheetKind::Unclosed,
+        LexKind::BadByte => SheetKind::BadByte,
+        LexKind::NumberTooLong => SheetKind::NumberTooLong,
+    }
+}
+
+/// A fault of the byte at a place.
+fn told(bytes: &[u8], kind: SheetKind, place: u32) -> SheetFault
+    ensures { result ≡ told bytes.now (kind, place) }
+{
+    SheetFault::Text {
+        line: line_of(bytes, place),
+        column: column_of(bytes, place),
+        kind,
+    }
+}
+
+/// A byte that is at fault.
+fn of_lexer(bytes: &[u8], fault: Fault) -> SheetFault
+    ensures { result ≡ told bytes.now (of_lexer fault) }
+{
+    told(bytes, kind_of(fault.kind), fault.place)
+}
+
+/// A fault that is met where the tokens run out.
+fn at_end(bytes: &[u8], fault: Option<Fault>, wrong: Wrong) -> SheetFault
+    requires { length bytes.now < 2 ^ 32 }
+    ensures { result ≡ told bytes.now (reported bytes.now fault (wrong, [])) }
+{
+    match fault {
+        Some(fault) => of_lexer(bytes, fault),
+        None => match wrong.place {
+            Some(place) => told(bytes, wrong.kind, place),
+            None => told(bytes, wrong.kind, bytes.len() as u32),
+        },
+    }
+}
+
+/// A fault that is met at the token of a number.
+fn refusal(
+    bytes: &[u8],
+    tokens: &[Token],
+    fault: Option<Fault>,
+    wrong: Wrong,
+    at: usize,
+) -> SheetFault
+    requires { length bytes.now < 2 ^ 32 }
+    ensures { result ≡ told bytes.now (reported bytes.now fault (wrong, lexemes_from bytes.now tokens.now at)) }
+{
+    let Some(token) = token_at(tokens, at) else {
+        return at_end(bytes, fault, wrong);
+    };
+    match wrong.place {
+        Some(place) => told(bytes, wrong.kind, place),
+        None => told(bytes, wrong.kind, token.from),
+    }
+}
+
+/// What the bytes of a sheet have.
+#[tactic(auto, unfolding(crate::specs::Texts::sheet_of))]
+fn sheet_text(alloc: Global, bytes: &[u8]) -> Result<Gathered, SheetFault>
+    requires { length bytes.now < 2 ^ 32 }
+    ensures { GivesText (found_in bytes.now) bytes.now result (sheet_of bytes.now) }
+{
+    let Ok(all) = all_tokens(alloc, bytes) else {
+        return Err(SheetFault::NoMemory);
+    };
+    match sheet(alloc, bytes, all.tokens.as_slice()) {
+        Ok(found) => match all.fault {
+            Some(fault) => Err(of_lexer(bytes, fault)),
+            None => Ok(found.0),
+        },
+        Err(Stop::At { wrong, at }) => {
+            Err(refusal(bytes, all.tokens.as_slice(), all.fault, wrong, at))
+        }
+        Err(Stop::Memory) => Err(SheetFault::NoMemory),
+    }
+}
+
+/// What the bytes of an inline text have.
+#[tactic(auto, unfolding(crate::specs::Texts::inline_of, crate::specs::Reads::inline_at, crate::specs::Seen::defined_in))]
+fn inline_text(alloc: Global, bytes: &[u8]) -> Result<Block, SheetFault>
+    requires { length bytes.now < 2 ^ 32 }
+    ensures { GivesText body_of bytes.now result (inline_of bytes.now) }
+{
+    let Ok(all) = all_tokens(alloc, bytes) else {
+        return Err(SheetFault::NoMemory);
+    };
+    let variables = Variables::none(alloc);
+    match body(alloc, bytes, all.tokens.as_slice(), 0, true, &variables) {
+        Ok(found) => match all.fault {
+            Some(fault) => Err(of_lexer(bytes, fault)),
+            None => Ok(found.0),
+        },
+        Err(Stop::At { wrong, at }) => {
+            Err(refusal(bytes, all.tokens.as_slice(), all.fault, wrong, at))
+        }
+        Err(Stop::Memory) => Err(SheetFault::NoMemory),
+    }
+}
+
+/// The rules of the default sheet.
+#[tactic(auto, unfolding(crate::specs::Default::default_rules))]
+fn defaults(alloc: Global) -> Result<Rules, AllocError>
+    ensures { IfOk result (λ rules. rules ≡ default_rules) }
+{
+    match sheet_text(alloc, DEFAULT_SHEET) {
+        Ok(found) => Ok(Rules::of(found.rules)),
+        Err(SheetFault::Text { .. }) => Ok(Rules::of(Vec::new(alloc))),
+        Err(SheetFault::NoMemory) => Err(AllocError),
+    }
+}
+
+/// The sheet that bytes are.
+fn sheet_with_defaults(alloc: Global, bytes: &[u8]) -> Result<Sheet, SheetFault>
+    requires { length bytes.now < 2 ^ 32 }
+    ensures { GivesSheet bytes.now result }
+{
+    let found = match sheet_text(alloc, bytes) {
+        Ok(found) => found,
+        Err(fault) => return Err(fault),
+    };
+    match defaults(alloc) {
+        Ok(defaults) => Ok(Sheet::of(
+            Rules::of(found.rules),
+            found.defined,
+            found.written,
+            defaults,
+        )),
+        Err(_) => Err(SheetFault::NoMemory),
+    }
+}
 
 /// Reads a stylesheet of fewer than 2^32 bytes. The default sheet's rules stand beside its own.
 /// `Text` is the first fault.
@@ -19,7 +207,18 @@ pub fn read_sheet(alloc: Global, bytes: &[u8]) -> Result<Sheet, SheetFault>
     // The answer is what the definition reads, with the place of the first fault.
     ensures exact { GivesSheet bytes.now result }
 {
-    Err(SheetFault::NoMemory)
+    sheet_with_defaults(alloc, bytes)
+}
+
+/// The declarations that bytes are.
+fn inline_declarations(alloc: Global, bytes: &[u8]) -> Result<Vec<Declaration>, SheetFault>
+    requires { length bytes.now < 2 ^ 32 }
+    ensures { GivesInline bytes.now result }
+{
+    match inline_text(alloc, bytes) {
+        Ok(block) => Ok(block.declarations),
+        Err(fault) => Err(fault),
+    }
 }
 
 /// Reads declarations without braces, in which only the variables of the theme are defined. The
@@ -30,5 +229,5 @@ pub fn read_inline(alloc: Global, text: &str) -> Result<Vec<Declaration>, SheetF
     ensures only { (body : Body) → IsInlineText text.now body → IsInlineReadAs body result }
     ensures exact { GivesInline text.now result }
 {
-    Err(SheetFault::NoMemory)
+    inline_declarations(alloc, text.as_bytes())
 }
