@@ -1,6 +1,10 @@
 pub mod BodySteps
 pub mod Cases
+pub mod Counts
 pub mod Definitions
+pub mod FoundBodies
+pub mod FoundSheets
+pub mod FoundValues
 pub mod Local
 pub mod LocalBodies
 pub mod LocalSheets
