@@ -221,6 +221,9 @@ PartFound found ts next rest =
     ((name : List ℕ) × (stand : List Lexeme) × Takes (λ a. IsVariable found.defined a name stand) ts rest × (next ≡ with_variable name stand found))
     ⊎ ((rule : RuleValue) × (written : ℕ) × Takes (λ a. IsRule found.defined a rule written) ts rest × (next ≡ with_rule rule written found) × (length found.rules < 10000))
 
+below : (n : ℕ) → nat_lt n 10000 ≡ true → n < 10000
+below n less = grind (arith, less)
+
 rules_found : (found next : Found) (ts rest : List Lexeme) → rule_in_sheet found ts ≡ Ok (next, rest) → PartFound found ts next rest
 unfolding rule_in_sheet
 rules_found found next ts rest is = of (nat_lt (length found.rules) 10000) refl is
@@ -230,7 +233,7 @@ rules_found found next ts rest is = of (nat_lt (length found.rules) 10000) refl 
         let one : (r : (RuleValue × ℕ) × List Lexeme) × (rule_at found.defined ts ≡ Ok r) × (Ok (with_rule r.0.0 r.0.1 found, r.1) ≡ Ok (next, rest)) =
         parts_of (rule_at found.defined ts) (λ r. Ok (with_rule r.0.0 r.0.1 found, r.1)) next rest is in
         let same : (with_rule one.0.0.0 one.0.0.1 found ≡ next) × (one.0.1 ≡ rest) = given (with_rule one.0.0.0 one.0.0.1 found) next one.0.1 rest one.2 in
-        inr (one.0.0.0, one.0.0.1, subst (λ r. Takes (λ a. IsRule found.defined a one.0.0.0 one.0.0.1) ts r) same.1 (rule_found found.defined ts one.0.1 one.0.0 one.1), sym same.0, grind (arith, fewer))
+        inr (one.0.0.0, one.0.0.1, subst (λ r. Takes (λ a. IsRule found.defined a one.0.0.0 one.0.0.1) ts r) same.1 (rule_found found.defined ts one.0.1 one.0.0 one.1), sym same.0, below (length found.rules) fewer)
     of false fewer is = absurd (refused (wrong_of TooManyRules, ts) next rest is)
 
 part_found : (found next : Found) (ts rest : List Lexeme) → part_at found ts ≡ Ok (next, rest) → PartFound found ts next rest

@@ -1,7 +1,11 @@
+pub mod AgainBodies
+pub mod AgainSheets
+pub mod AgainValues
 pub mod BodySteps
 pub mod Cases
 pub mod Counts
 pub mod Definitions
+pub mod FirstFaults
 pub mod FoundBodies
 pub mod FoundSheets
 pub mod FoundValues
@@ -13,3 +17,4 @@ pub mod SelectorSteps
 pub mod SheetSteps
 pub mod Turns
 pub mod ValueSteps
+pub mod WholeTexts

@@ -12,6 +12,8 @@ mod places;
 mod rules;
 mod sheet;
 mod sheets;
+#[cfg(test)]
+mod tests;
 mod texts;
 mod tokens;
 mod uses;

@@ -1,5 +1,5 @@
-use Rattle.tx_parse.proofs.LocalSheets.{sheet-plain}
+use Rattle.tx_parse.proofs.FirstFaults.{faults_first}
 use Rattle.tx_parse.proofs.laws.faults_are_first.Goals as goal
 
 pub returns : goal.returns
-returns c = ?
+returns c = faults_first
