@@ -1,4 +1,4 @@
-use crate::{SheetFault, read_inline, read_sheet};
+use crate::{Sheet, SheetFault, read_inline, read_sheet};
 use std::alloc::Global;
 use std::test::Fail;
 use tx_tree::Name;
@@ -30,9 +30,9 @@ fn answer(alloc: Global, text: &[u8]) -> Result<String, Fail> {
 }
 
 /// How many declarations an inline text has, or its fault.
-fn inline_answer(alloc: Global, text: &'static str) -> Result<String, Fail> {
+fn inline_answer(alloc: Global, text: &str) -> Result<String, Fail> {
     if text.len() > 1000 {
-        return Err(Fail::from(text));
+        return Err(Fail::from("too long"));
     }
     match read_inline(alloc, text) {
         Ok(declarations) => Ok(format!(in alloc; "{}", declarations.len())?),
@@ -40,228 +40,231 @@ fn inline_answer(alloc: Global, text: &'static str) -> Result<String, Fail> {
     }
 }
 
-fn reads(alloc: Global, text: &'static str, wanted: &str) -> Result<(), Fail> {
-    let found = answer(alloc, text.as_bytes())?;
-    expect(found.as_str() == wanted, text)
+/// Both parts of a line of a table, which has ` => ` between them.
+fn parts(line: &'static str) -> Result<(&'static str, &'static str), Fail> {
+    Ok(line.split_once(" => ").ok_or(line)?)
+}
+
+/// Each line has a sheet, in which `|` stands for a line feed, and what is read of it.
+fn read_lines(alloc: Global, table: &'static str) -> Result<(), Fail> {
+    for line in table.lines() {
+        let (text, wanted) = parts(line)?;
+        let sheet = text.replace(alloc, "|", "\n")?;
+        let found = answer(alloc, sheet.as_str().as_bytes())?;
+        expect(found.as_str() == wanted, line)?;
+    }
+    Ok(())
+}
+
+/// The same of inline texts.
+fn read_inline_lines(alloc: Global, table: &'static str) -> Result<(), Fail> {
+    for line in table.lines() {
+        let (text, wanted) = parts(line)?;
+        let found = inline_answer(alloc, text)?;
+        expect(found.as_str() == wanted, line)?;
+    }
+    Ok(())
 }
 
 #[test]
 fn sheets_are_read(rt: HostRuntime) -> Result<(), Fail> {
-    let cases = [
-        ("", "rules 0, declarations 0, variables 0"),
-        (" /* a */ \n", "rules 0, declarations 0, variables 0"),
-        ("A{}", "rules 1, declarations 0, variables 0"),
-        ("A { ; ; }", "rules 1, declarations 0, variables 0"),
-        ("A { width: 1; }", "rules 1, declarations 1, variables 0"),
-        ("A { width: 1 }", "rules 1, declarations 1, variables 0"),
-        ("A, B { width: 1; height: 2 }", "rules 1, declarations 2, variables 0"),
-        ("A{margin:1 2}", "rules 1, declarations 1, variables 0"),
-        ("$a: red;", "rules 0, declarations 0, variables 1"),
-        ("$a: red; $a: blue;", "rules 0, declarations 0, variables 2"),
-        ("$a: red; A { color: $a; }", "rules 1, declarations 1, variables 1"),
-        ("$a: red; $b: $a; $a: blue; A { color: $b }", "rules 1, declarations 1, variables 3"),
-        ("A { color: $text }", "rules 1, declarations 1, variables 0"),
-        ("A { width: 1 !important; }", "rules 1, declarations 1, variables 0"),
-        ("A { width: 1 ! /**/ important /**/ }", "rules 1, declarations 1, variables 0"),
-        ("A/**/{/**/width/**/:/**/1/**/;/**/}/**/", "rules 1, declarations 1, variables 0"),
-        ("A > B C.d:hover#e {}", "rules 1, declarations 0, variables 0"),
-        ("* {} .a {} #b {} :focus {}", "rules 4, declarations 0, variables 0"),
-        ("A {} $a: 1; B {}", "rules 2, declarations 0, variables 1"),
-        ("$i: initial; A { margin: $i; }", "rules 1, declarations 1, variables 1"),
-        ("A { text-style: bold bold; }", "rules 1, declarations 1, variables 0"),
-        ("A { color: rgb(1,2,3) 50%; }", "rules 1, declarations 1, variables 0"),
-        ("A { width: initial }", "rules 1, declarations 1, variables 0"),
-        ("$text: red; A { color: $text }", "rules 1, declarations 1, variables 1"),
-        ("A { background: #FFF; }", "rules 1, declarations 1, variables 0"),
-        ("A { layers: a b a; layer: a }", "rules 1, declarations 2, variables 0"),
-        ("$ a: 1;", "1:1: BadByte"),
-    ];
-    for (text, wanted) in cases {
-        reads(rt.alloc(), text, wanted)?;
-    }
-    Ok(())
+    read_lines(
+        rt.alloc(),
+        "\
+A{} => rules 1, declarations 0, variables 0\n\
+A { ; ; } => rules 1, declarations 0, variables 0\n\
+A { width: 1; } => rules 1, declarations 1, variables 0\n\
+A { width: 1 } => rules 1, declarations 1, variables 0\n\
+A, B { width: 1; height: 2 } => rules 1, declarations 2, variables 0\n\
+A{margin:1 2} => rules 1, declarations 1, variables 0\n\
+$a: red; => rules 0, declarations 0, variables 1\n\
+$a: red; $a: blue; => rules 0, declarations 0, variables 2\n\
+$a: red; A { color: $a; } => rules 1, declarations 1, variables 1\n\
+$a: red; $b: $a; $a: blue; A { color: $b } => rules 1, declarations 1, variables 3\n\
+A { color: $text } => rules 1, declarations 1, variables 0\n\
+A { width: 1 !important; } => rules 1, declarations 1, variables 0\n\
+A { width: 1 ! /**/ important /**/ } => rules 1, declarations 1, variables 0\n\
+A/**/{/**/width/**/:/**/1/**/;/**/}/**/ => rules 1, declarations 1, variables 0\n\
+A > B C.d:hover#e {} => rules 1, declarations 0, variables 0\n\
+* {} .a {} #b {} :focus {} => rules 4, declarations 0, variables 0\n\
+A {} $a: 1; B {} => rules 2, declarations 0, variables 1\n\
+$i: initial; A { margin: $i; } => rules 1, declarations 1, variables 1\n\
+A { text-style: bold bold; } => rules 1, declarations 1, variables 0\n\
+A { color: rgb(1,2,3) 50%; } => rules 1, declarations 1, variables 0\n\
+A { width: initial } => rules 1, declarations 1, variables 0\n\
+$text: red; A { color: $text } => rules 1, declarations 1, variables 1\n\
+A { background: #FFF; } => rules 1, declarations 1, variables 0\n\
+A { layers: a b a; layer: a } => rules 1, declarations 2, variables 0\n\
+$ a: 1; => 1:1: BadByte",
+    )
 }
 
 #[test]
 fn what_may_not_stand_there_is_refused(rt: HostRuntime) -> Result<(), Fail> {
-    let cases = [
-        ("A", "1:2: Expected"),
-        ("A {", "1:4: Expected"),
-        ("A { width: 1;", "1:14: Expected"),
-        ("A { width }", "1:11: Expected"),
-        ("A { width: }", "1:12: Expected"),
-        ("A { width: 1 height: 2 }", "1:20: Expected"),
-        ("A { width: 1 ! }", "1:16: Expected"),
-        ("A { width: 1 !important 2 }", "1:25: Expected"),
-        ("A { width: 1 !importent }", "1:15: Expected"),
-        ("}", "1:1: Expected"),
-        ("A { }}", "1:6: Expected"),
-        ("A,{ }", "1:3: Expected"),
-        (", A {}", "1:1: Expected"),
-        ("> A {}", "1:1: Expected"),
-        ("A > {}", "1:5: Expected"),
-        ("A..b {}", "1:3: Expected"),
-        ("A. b {}", "1:3: Expected"),
-        ("A: hover {}", "1:3: Expected"),
-        ("A/**/B {}", "1:6: Expected"),
-    ];
-    for (text, wanted) in cases {
-        reads(rt.alloc(), text, wanted)?;
-    }
-    Ok(())
+    read_lines(
+        rt.alloc(),
+        "\
+A => 1:2: Expected\n\
+A { => 1:4: Expected\n\
+A { width: 1; => 1:14: Expected\n\
+A { width } => 1:11: Expected\n\
+A { width: } => 1:12: Expected\n\
+A { width: 1 height: 2 } => 1:20: Expected\n\
+A { width: 1 ! } => 1:16: Expected\n\
+A { width: 1 !important 2 } => 1:25: Expected\n\
+A { width: 1 !importent } => 1:15: Expected\n\
+} => 1:1: Expected\n\
+A { }} => 1:6: Expected\n\
+A,{ } => 1:3: Expected\n\
+, A {} => 1:1: Expected\n\
+> A {} => 1:1: Expected\n\
+A > {} => 1:5: Expected\n\
+A..b {} => 1:3: Expected\n\
+A. b {} => 1:3: Expected\n\
+A: hover {} => 1:3: Expected\n\
+A/**/B {} => 1:6: Expected",
+    )
 }
 
 #[test]
 fn what_is_missing_is_told(rt: HostRuntime) -> Result<(), Fail> {
-    let cases = [
-        ("$a red;", "1:4: Expected"),
-        ("$a: ;", "1:5: Expected"),
-        ("$a: red", "1:8: Expected"),
-        ("$a: red !important;", "1:9: Expected"),
-        ("$a: red }", "1:9: Expected"),
-        ("A { 1: 2; }", "1:5: Expected"),
-        ("A { $a: 1; }", "1:5: Expected"),
-        ("A { width; }", "1:10: Expected"),
-        ("A { width: 1; ! }", "1:15: Expected"),
-        ("A { width: 1 : }", "1:14: Expected"),
-        ("A #1 {}", "1:3: Expected"),
-        ("1 {}", "1:1: Expected"),
-        ("A { width: red", "1:15: Expected"),
-        ("A { width: red ! }", "1:18: Expected"),
-        ("/* é */ }", "1:9: Expected"),
-        ("/* é */\n  }", "2:3: Expected"),
-        ("} @", "1:1: Expected"),
-        ("A B { width 1 }", "1:13: Expected"),
-    ];
-    for (text, wanted) in cases {
-        reads(rt.alloc(), text, wanted)?;
-    }
-    Ok(())
+    read_lines(
+        rt.alloc(),
+        "\
+$a red; => 1:4: Expected\n\
+$a: ; => 1:5: Expected\n\
+$a: red => 1:8: Expected\n\
+$a: red !important; => 1:9: Expected\n\
+$a: red } => 1:9: Expected\n\
+A { 1: 2; } => 1:5: Expected\n\
+A { $a: 1; } => 1:5: Expected\n\
+A { width; } => 1:10: Expected\n\
+A { width: 1; ! } => 1:15: Expected\n\
+A { width: 1 : } => 1:14: Expected\n\
+A #1 {} => 1:3: Expected\n\
+1 {} => 1:1: Expected\n\
+A { width: red => 1:15: Expected\n\
+A { width: red ! } => 1:18: Expected\n\
+/* é */ } => 1:9: Expected\n\
+/* é */|  } => 2:3: Expected\n\
+} @ => 1:1: Expected\n\
+A B { width 1 } => 1:13: Expected",
+    )
 }
 
 #[test]
 fn each_kind_is_told_at_its_place(rt: HostRuntime) -> Result<(), Fail> {
-    let cases = [
-        ("$a: $b;", "1:5: UndefinedVariable"),
-        ("A { color: $a; }", "1:12: UndefinedVariable"),
-        ("A { color: $a; } $a: red;", "1:12: UndefinedVariable"),
-        ("$a: $a;", "1:5: UndefinedVariable"),
-        ("A { colour: red; }", "1:5: UnknownProperty"),
-        ("A { Width: 1 }", "1:5: UnknownProperty"),
-        ("A { colour }", "1:5: UnknownProperty"),
-        ("A { B {} }", "1:5: UnknownProperty"),
-        ("A:hovered {}", "1:3: UnknownPseudo"),
-        ("A:Hover {}", "1:3: UnknownPseudo"),
-        (":x {}", "1:2: UnknownPseudo"),
-        ("A { width: red; }", "1:12: BadValue"),
-        ("A { width: /**/ red }", "1:17: BadValue"),
-        ("A { margin: 1 2 3; }", "1:13: BadValue"),
-        ("A {\n color: 1;\n}", "2:9: BadValue"),
-        ("A { color: initial red }", "1:12: BadValue"),
-        ("A { width: 1, 2 }", "1:12: BadValue"),
-        ("A { width: ( }", "1:12: BadValue"),
-        ("A { display: none block }", "1:14: BadValue"),
-        ("$a: 1 2 3; A { margin: $a }", "1:24: BadValue"),
-        ("A { color: transparent 5% }", "1:12: BadValue"),
-    ];
-    for (text, wanted) in cases {
-        reads(rt.alloc(), text, wanted)?;
-    }
-    Ok(())
+    read_lines(
+        rt.alloc(),
+        "\
+$a: $b; => 1:5: UndefinedVariable\n\
+A { color: $a; } => 1:12: UndefinedVariable\n\
+A { color: $a; } $a: red; => 1:12: UndefinedVariable\n\
+$a: $a; => 1:5: UndefinedVariable\n\
+A { colour: red; } => 1:5: UnknownProperty\n\
+A { Width: 1 } => 1:5: UnknownProperty\n\
+A { colour } => 1:5: UnknownProperty\n\
+A { B {} } => 1:5: UnknownProperty\n\
+A:hovered {} => 1:3: UnknownPseudo\n\
+A:Hover {} => 1:3: UnknownPseudo\n\
+:x {} => 1:2: UnknownPseudo\n\
+A { width: red; } => 1:12: BadValue\n\
+A { width: /**/ red } => 1:17: BadValue\n\
+A { margin: 1 2 3; } => 1:13: BadValue\n\
+A {| color: 1;|} => 2:9: BadValue\n\
+A { color: initial red } => 1:12: BadValue\n\
+A { width: 1, 2 } => 1:12: BadValue\n\
+A { width: ( } => 1:12: BadValue\n\
+A { display: none block } => 1:14: BadValue\n\
+$a: 1 2 3; A { margin: $a } => 1:24: BadValue\n\
+A { color: transparent 5% } => 1:12: BadValue",
+    )
 }
 
 #[test]
 fn the_first_fault_is_told(rt: HostRuntime) -> Result<(), Fail> {
-    let cases = [
-        ("A { width: red; colour: 1 }", "1:12: BadValue"),
-        ("A { colour: 1; width: red }", "1:5: UnknownProperty"),
-        ("A { width: red $b }", "1:16: UndefinedVariable"),
-        ("A { width: $b red }", "1:12: UndefinedVariable"),
-        ("A:x { colour: 1 }", "1:3: UnknownPseudo"),
-        ("A { colour: 1 } B:x {}", "1:5: UnknownProperty"),
-        ("A { color: $b; } A:x {}", "1:12: UndefinedVariable"),
-        ("A:x {} A { color: $b; }", "1:3: UnknownPseudo"),
-        ("A { /* }", "1:5: Unclosed"),
-        ("/*", "1:1: Unclosed"),
-        ("A { } @", "1:7: BadByte"),
-        ("A { width: 1 @ }", "1:14: BadByte"),
-        ("A { width: 1234567890 }", "1:12: NumberTooLong"),
-        ("A { width: 0.1234567890123456789 }", "1:12: NumberTooLong"),
-        ("A { colour: 1 } /*", "1:5: UnknownProperty"),
-        ("A /* { colour }", "1:3: Unclosed"),
-        ("@ }", "1:1: BadByte"),
-        ("A@", "1:2: BadByte"),
-        ("A { width: red @", "1:16: BadByte"),
-        ("A { width: red; @", "1:12: BadValue"),
-        ("A { } é", "1:7: BadByte"),
-        ("A { width: 1234567890 @ }", "1:12: NumberTooLong"),
-        ("A { @ 1234567890 }", "1:5: BadByte"),
-        ("A { width: 123456789 }", "rules 1, declarations 1, variables 0"),
-        ("A { width: 0.123456789012345678 }", "rules 1, declarations 1, variables 0"),
-    ];
-    for (text, wanted) in cases {
-        reads(rt.alloc(), text, wanted)?;
-    }
-    Ok(())
-}
-
-#[test]
-fn bytes_are_read_up_to_the_first_fault(rt: HostRuntime) -> Result<(), Fail> {
-    let cases = [
-        (b"A { } \xff".as_slice(), "1:7: BadByte"),
-        (b"/* \xff */".as_slice(), "1:4: BadByte"),
-        (b"/* \xff".as_slice(), "1:1: Unclosed"),
-        (b"\xe2\x82".as_slice(), "1:1: BadByte"),
-        (b"A /* \xff */ {}".as_slice(), "1:6: BadByte"),
-        (b"A./* \xff */".as_slice(), "1:3: Expected"),
-        (b"$a:/* \xff */".as_slice(), "1:7: BadByte"),
-    ];
-    for (text, wanted) in cases {
-        let found = answer(rt.alloc(), text)?;
-        expect(found.as_str() == wanted, wanted)?;
-    }
-    Ok(())
-}
-
-fn reads_inline(alloc: Global, text: &'static str, wanted: &str) -> Result<(), Fail> {
-    let found = inline_answer(alloc, text)?;
-    expect(found.as_str() == wanted, text)
+    read_lines(
+        rt.alloc(),
+        "\
+A { width: red; colour: 1 } => 1:12: BadValue\n\
+A { colour: 1; width: red } => 1:5: UnknownProperty\n\
+A { width: red $b } => 1:16: UndefinedVariable\n\
+A { width: $b red } => 1:12: UndefinedVariable\n\
+A:x { colour: 1 } => 1:3: UnknownPseudo\n\
+A { colour: 1 } B:x {} => 1:5: UnknownProperty\n\
+A { color: $b; } A:x {} => 1:12: UndefinedVariable\n\
+A:x {} A { color: $b; } => 1:3: UnknownPseudo\n\
+A { /* } => 1:5: Unclosed\n\
+/* => 1:1: Unclosed\n\
+A { } @ => 1:7: BadByte\n\
+A { width: 1 @ } => 1:14: BadByte\n\
+A { width: 1234567890 } => 1:12: NumberTooLong\n\
+A { width: 0.1234567890123456789 } => 1:12: NumberTooLong\n\
+A { colour: 1 } /* => 1:5: UnknownProperty\n\
+A /* { colour } => 1:3: Unclosed\n\
+@ } => 1:1: BadByte\n\
+A@ => 1:2: BadByte\n\
+A { width: red @ => 1:16: BadByte\n\
+A { width: red; @ => 1:12: BadValue\n\
+A { } é => 1:7: BadByte\n\
+A { width: 1234567890 @ } => 1:12: NumberTooLong\n\
+A { @ 1234567890 } => 1:5: BadByte\n\
+A { width: 123456789 } => rules 1, declarations 1, variables 0\n\
+A { width: 0.123456789012345678 } => rules 1, declarations 1, variables 0",
+    )
 }
 
 #[test]
 fn inline_texts_are_read(rt: HostRuntime) -> Result<(), Fail> {
-    let cases = [
-        ("", "0"),
-        (";", "0"),
-        (" /**/ ", "0"),
-        ("width: 1", "1"),
-        ("width: 1;", "1"),
-        ("margin: 1", "4"),
-        ("width: 1; height: 2", "2"),
-        ("width: 1;; height: 1", "2"),
-        ("color: $text", "1"),
-        ("width: 1 !important", "1"),
-        ("color: $a", "1:8: UndefinedVariable"),
-        ("width: 1 }", "1:10: Expected"),
-        ("{ width: 1 }", "1:1: Expected"),
-        ("width", "1:6: Expected"),
-        ("width:", "1:7: Expected"),
-        ("width: red", "1:8: BadValue"),
-        ("colour: red", "1:1: UnknownProperty"),
-        ("$a: 1;", "1:1: Expected"),
-        ("width: 1 /*", "1:10: Unclosed"),
-        ("width: red @", "1:12: BadByte"),
-        ("width: red; @", "1:8: BadValue"),
-        ("A { }", "1:1: UnknownProperty"),
-        ("width: 1 height: 2", "1:16: Expected"),
-        ("}", "1:1: Expected"),
-        ("width: 1; }", "1:11: Expected"),
-        ("width: 1 !", "1:11: Expected"),
-    ];
-    for (text, wanted) in cases {
-        reads_inline(rt.alloc(), text, wanted)?;
-    }
-    Ok(())
+    read_inline_lines(
+        rt.alloc(),
+        "\
+; => 0\n\
+/**/   => 0\n\
+width: 1 => 1\n\
+width: 1; => 1\n\
+margin: 1 => 4\n\
+width: 1; height: 2 => 2\n\
+width: 1;; height: 1 => 2\n\
+color: $text => 1\n\
+width: 1 !important => 1\n\
+color: $a => 1:8: UndefinedVariable\n\
+width: 1 } => 1:10: Expected\n\
+{ width: 1 } => 1:1: Expected\n\
+width => 1:6: Expected\n\
+width: => 1:7: Expected\n\
+width: red => 1:8: BadValue\n\
+colour: red => 1:1: UnknownProperty\n\
+$a: 1; => 1:1: Expected\n\
+width: 1 /* => 1:10: Unclosed\n\
+width: red @ => 1:12: BadByte\n\
+width: red; @ => 1:8: BadValue\n\
+A { } => 1:1: UnknownProperty\n\
+width: 1 height: 2 => 1:16: Expected\n\
+} => 1:1: Expected\n\
+width: 1; } => 1:11: Expected\n\
+width: 1 ! => 1:11: Expected",
+    )
+}
+
+fn reads_bytes(alloc: Global, text: &[u8], wanted: &'static str) -> Result<(), Fail> {
+    let found = answer(alloc, text)?;
+    expect(found.as_str() == wanted, wanted)
+}
+
+#[test]
+fn bytes_are_read_up_to_the_first_fault(rt: HostRuntime) -> Result<(), Fail> {
+    let alloc = rt.alloc();
+    reads_bytes(alloc, b"", "rules 0, declarations 0, variables 0")?;
+    reads_bytes(alloc, b" /* a */ \n", "rules 0, declarations 0, variables 0")?;
+    expect(inline_answer(alloc, "")?.as_str() == "0", "an empty text")?;
+    reads_bytes(alloc, b"A { } \xff", "1:7: BadByte")?;
+    reads_bytes(alloc, b"/* \xff */", "1:4: BadByte")?;
+    reads_bytes(alloc, b"/* \xff", "1:1: Unclosed")?;
+    reads_bytes(alloc, b"\xe2\x82", "1:1: BadByte")?;
+    reads_bytes(alloc, b"A /* \xff */ {}", "1:6: BadByte")?;
+    reads_bytes(alloc, b"A./* \xff */", "1:3: Expected")?;
+    reads_bytes(alloc, b"$a:/* \xff */", "1:7: BadByte")
 }
 
 /// A text so many times, between two others.
@@ -293,28 +296,38 @@ fn reads_repeated(
     expect(found.as_str() == wanted, wanted)
 }
 
+/// A line has a text, another that is repeated, how often, and a last one, with `|` between them,
+/// then ` => ` and what is read of all.
+fn reads_limit(alloc: Global, line: &'static str) -> Result<(), Fail> {
+    let (all, wanted) = parts(line)?;
+    let (front, rest) = all.split_once("|").ok_or(line)?;
+    let (text, rest) = rest.split_once("|").ok_or(line)?;
+    let (times, back) = rest.split_once("|").ok_or(line)?;
+    let times: u32 = times.parse().map_err(|_| line)?;
+    reads_repeated(alloc, front, text, times, back, wanted)
+}
+
 #[test]
 fn limits_are_kept(rt: HostRuntime) -> Result<(), Fail> {
-    let cases = [
-        ("A { text-style:", " bold", 64, "}", "rules 1, declarations 1, variables 0"),
-        ("A { text-style:", " bold", 65, "}", "1:337: ValueTooLong"),
-        ("$a: 1", " 1", 63, ";", "rules 0, declarations 0, variables 1"),
-        ("$a: 1", " 1", 64, ";", "1:133: ValueTooLong"),
-        ("$a: 1 1 1; $b:", " $a", 21, ";", "rules 0, declarations 0, variables 2"),
-        ("$a: 1 1 1; $b:", " $a", 22, ";", "1:79: ValueTooLong"),
-        ("A", ",A", 63, "{}", "rules 1, declarations 0, variables 0"),
-        ("A", ",A", 64, "{}", "1:129: Expected"),
-        ("A", " A", 15, "{}", "rules 1, declarations 0, variables 0"),
-        ("A", " A", 16, "{}", "1:33: Expected"),
-        ("", "a", 64, " {}", "rules 1, declarations 0, variables 0"),
-        ("", "a", 65, " {}", "1:1: Expected"),
-        ("$", "a", 64, ": 1;", "rules 0, declarations 0, variables 1"),
-        ("$", "a", 65, ": 1;", "1:1: Expected"),
-        ("A { color: $", "a", 65, "; }", "1:12: UndefinedVariable"),
-        ("A { layer: ", "a", 65, "; }", "1:12: BadValue"),
-    ];
-    for (front, text, times, back, wanted) in cases {
-        reads_repeated(rt.alloc(), front, text, times, back, wanted)?;
+    let table = "\
+A { text-style:| bold|64|} => rules 1, declarations 1, variables 0\n\
+A { text-style:| bold|65|} => 1:337: ValueTooLong\n\
+$a: 1| 1|63|; => rules 0, declarations 0, variables 1\n\
+$a: 1| 1|64|; => 1:133: ValueTooLong\n\
+$a: 1 1 1; $b:| $a|21|; => rules 0, declarations 0, variables 2\n\
+$a: 1 1 1; $b:| $a|22|; => 1:79: ValueTooLong\n\
+A|,A|63|{} => rules 1, declarations 0, variables 0\n\
+A|,A|64|{} => 1:129: Expected\n\
+A| A|15|{} => rules 1, declarations 0, variables 0\n\
+A| A|16|{} => 1:33: Expected\n\
+|a|64| {} => rules 1, declarations 0, variables 0\n\
+|a|65| {} => 1:1: Expected\n\
+$|a|64|: 1; => rules 0, declarations 0, variables 1\n\
+$|a|65|: 1; => 1:1: Expected\n\
+A { color: $|a|65|; } => 1:12: UndefinedVariable\n\
+A { layer: |a|65|; } => 1:12: BadValue";
+    for line in table.lines() {
+        reads_limit(rt.alloc(), line)?;
     }
     Ok(())
 }
@@ -337,6 +350,14 @@ fn a_sheet_has_at_most_ten_thousand_rules(rt: HostRuntime) -> Result<(), Fail> {
         10_000,
         " .1",
         "10001:2: Expected",
+    )?;
+    reads_repeated(
+        alloc,
+        "",
+        "A{}\n",
+        10_000,
+        " ..",
+        "10001:2: TooManyRules",
     )?;
     reads_repeated(
         alloc,
@@ -388,23 +409,21 @@ fn the_default_sheet_is_read(rt: HostRuntime) -> Result<(), Fail> {
     )
 }
 
+fn has(sheet: &Sheet, text: &'static str, class: bool, pseudo: bool) -> Result<(), Fail> {
+    let name = Name::of(text).ok_or("a name")?;
+    expect(sheet.uses(&name) == class, text)?;
+    expect(sheet.uses_pseudo(&name) == pseudo, text)
+}
+
 #[test]
 fn what_selectors_have_is_found(rt: HostRuntime) -> Result<(), Fail> {
     let sheet = read_sheet(rt.alloc(), b"A.on:hover B {} #off {} C, D:dark > E.far {}")?;
-    let cases = [
-        ("on", true, false),
-        ("far", true, false),
-        ("off", false, false),
-        ("hover", false, true),
-        ("dark", false, true),
-        ("focus", false, true),
-        ("A", false, false),
-        ("light", false, false),
-    ];
-    for (text, class, pseudo) in cases {
-        let name = Name::of(text).ok_or("a name")?;
-        expect(sheet.uses(&name) == class, "a class")?;
-        expect(sheet.uses_pseudo(&name) == pseudo, "a pseudo-class")?;
-    }
-    Ok(())
+    has(&sheet, "on", true, false)?;
+    has(&sheet, "far", true, false)?;
+    has(&sheet, "off", false, false)?;
+    has(&sheet, "hover", false, true)?;
+    has(&sheet, "dark", false, true)?;
+    has(&sheet, "focus", false, true)?;
+    has(&sheet, "A", false, false)?;
+    has(&sheet, "light", false, false)
 }
