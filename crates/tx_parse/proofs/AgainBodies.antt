@@ -1,18 +1,16 @@
 -- The bodies that are in the grammar are read.
-use Rattle.std.proofs.Common.{◌≡◌, ◌⊎◌, inl, inr, ℕ, zero, suc, ◌+◌, ◌≤◌, ◌<◌, Bool, true, false, cond, not, ◌&&◌, ◌||◌, List, [], ◌∷◌, ◌++◌, length, drop, nat_eq, Ok, Err, refl, ap, sym, ◌∙◌, subst, arith, append_assoc, length-append}
-use Rattle.std.proofs.lemmas.Bool.Decides.{nat_tests}
+use Rattle.std.proofs.Common.{◌≡◌, inl, inr, ℕ, zero, suc, ◌+◌, ◌≤◌, ◌<◌, Bool, true, false, cond, not, ◌&&◌, ◌||◌, List, [], ◌∷◌, ◌++◌, length, Ok, refl, ap, sym, ◌∙◌, subst, arith, append_assoc, length-append}
 use Rattle.std.proofs.lemmas.List.{append-nil}
-use Rattle.tx_read.specs.Reading.{◌>>=◌, in_turn, Items}
-use Rattle.tx_lex.specs.Lexemes.{Lexeme, is_blank, is_name_token, is_mark, first_is}
+use Rattle.tx_read.specs.Reading.{in_turn, Items}
+use Rattle.tx_lex.specs.Lexemes.{Lexeme, is_blank, is_mark, first_is}
 use Rattle.tx_lex.specs.declared.token.TokenKind.TheVariants.{Name, Mark}
 use Rattle.tx_select.specs.Grammar.{AreBlank}
-use Rattle.tx_parse.specs.Grammar.{Body, nothing, one, joined, counted, IsDeclaration, IsPiece, IsEnded, IsBody}
-use Rattle.tx_parse.specs.Reads.{Read, Reads, give, expected, past_blanks, ends_body, past_end, is_end, declaration_at, with_declarations, item_at, next_in_body, body_from, body_at, inline_at}
+use Rattle.tx_parse.specs.Grammar.{Body, nothing, joined, IsDeclaration, IsPiece, IsEnded, IsBody}
+use Rattle.tx_parse.specs.Reads.{Read, give, ends_body, past_end, is_end, declaration_at, with_declarations, item_at, next_in_body, body_from, body_at, inline_at}
 use Rattle.tx_parse.specs.Values.{DeclarationValue}
 use Rattle.tx_parse.specs.Variables.{Defined}
-use Rattle.tx_parse.proofs.AgainValues.{past_again, is_kind, declaration_again, Ends, ends_of}
+use Rattle.tx_parse.proofs.AgainValues.{past_again, is_kind, declaration_again, ends_of}
 use Rattle.tx_parse.proofs.Counts.{counted_small, with_body, with_nothing, nothing_with, with_more, one_alone, joined_small}
-use Rattle.tx_parse.proofs.FoundBodies.{end_stays}
 use Rattle.tx_parse.proofs.Turns.{turn_ok}
 
 module _ (inline : Bool) (defined : Defined) where

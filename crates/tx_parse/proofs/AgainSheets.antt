@@ -1,28 +1,27 @@
 -- The rules, variables and sheets that are in the grammar are read.
-use Rattle.std.proofs.Common.{◌≡◌, ◌⊎◌, inl, inr, ℕ, zero, suc, ◌+◌, ◌≤◌, ◌<◌, Bool, true, false, cond, not, ◌&&◌, ◌||◌, List, [], ◌∷◌, ◌++◌, length, drop, nat_lt, nat_eq, Option, Some, None, Ok, Err, refl, ap, sym, ◌∙◌, subst, arith, append_assoc, length-append}
+use Rattle.std.proofs.Common.{◌≡◌, ◌⊎◌, inl, inr, ℕ, zero, suc, ◌+◌, ◌≤◌, ◌<◌, Bool, true, false, cond, ◌&&◌, ◌||◌, List, [], ◌∷◌, ◌++◌, length, drop, nat_lt, Option, Some, None, Ok, Err, refl, ap, sym, ◌∙◌, arith, append_assoc, length-append}
 use Rattle.std.specs.List.{list_all}
 use Rattle.std.proofs.lemmas.Bool.Decides.{nat_tests}
 use Rattle.std.proofs.lemmas.List.{append-nil}
 use Rattle.tx_tree.specs.Name.{is_name}
 use Rattle.tx_read.specs.Reading.{◌>>=◌, in_turn, Items}
-use Rattle.tx_lex.specs.Lexemes.{Lexeme, is_blank, is_name_token, is_hash, is_variable, is_mark, first_is}
+use Rattle.tx_lex.specs.Lexemes.{Lexeme, is_blank, is_name_token, is_variable, is_mark, first_is}
 use Rattle.tx_lex.specs.declared.token.TokenKind.{TokenKind}
 use Rattle.tx_lex.specs.declared.token.TokenKind.TheVariants.{Space, Comment, Name, Hash, Variable, Number, Mark}
 use Rattle.tx_select.specs.Grammar.{AreBlank, IsWhole}
 use Rattle.tx_select.specs.Laws.{StandsBefore}
 use Rattle.tx_select.specs.Lexemes.{begins_part, begins_compound, goes_on}
 use Rattle.tx_select.specs.Reads.{kind_at, parts_at, compound_at, compounds_at, compound_of, link_at, then_compounds, selector_at, Read as SelectorRead, expected as not_expected}
-use Rattle.tx_select.specs.declared.fault.SelectKind.{SelectKind}
 use Rattle.tx_select.specs.declared.value.Compound.{Compound}
 use Rattle.tx_select.specs.declared.value.Selector.{Selector}
 use Rattle.tx_select.proofs.Exact.{selectors-read}
-use Rattle.tx_parse.specs.Grammar.{Body, IsValues, IsBody, AreSelectors, IsRule, IsVariable, Found, nothing_found, with_variable, with_rule, IsPart, IsSheet}
-use Rattle.tx_parse.specs.Reads.{Read, Reads, give, met, expected, past_blanks, mark_at, values_at, body_at, kind_of, as_selector, spaced_selector_at, goes_on_at, then_selectors, selectors_from, selectors_at, rule_of, rule_at, definition_at, variable_in_sheet, rule_in_sheet, part_at, next_in_sheet, sheet_from, sheet_at}
+use Rattle.tx_parse.specs.Grammar.{IsValues, AreSelectors, IsRule, IsVariable, Found, nothing_found, with_variable, with_rule, IsPart, IsSheet}
+use Rattle.tx_parse.specs.Reads.{Reads, give, met, expected, past_blanks, mark_at, values_at, body_at, as_selector, spaced_selector_at, goes_on_at, then_selectors, selectors_from, selectors_at, rule_of, rule_at, definition_at, variable_in_sheet, rule_in_sheet, part_at, next_in_sheet, sheet_from, sheet_at}
 use Rattle.tx_parse.specs.Values.{RuleValue}
 use Rattle.tx_parse.specs.Variables.{Defined, is_value}
-use Rattle.tx_parse.specs.declared.fault.SheetKind.TheVariants.{Expected, TooManyRules}
+use Rattle.tx_parse.specs.declared.fault.SheetKind.TheVariants.{TooManyRules}
 use Rattle.tx_parse.proofs.AgainBodies.{body_again}
-use Rattle.tx_parse.proofs.AgainValues.{past_again, is_kind, mark_again, values_again}
+use Rattle.tx_parse.proofs.AgainValues.{past_again, mark_again, values_again}
 use Rattle.tx_parse.proofs.LocalBodies.{past_shorter}
 use Rattle.tx_parse.proofs.LocalSheets.{behind_variable, behind_rules, part_shorter}
 use Rattle.tx_parse.proofs.Turns.{turn_ok}
@@ -270,7 +269,9 @@ variable_read found part rest name stand is =
     let split : part ++ rest ≡ is.token ∷ more = ap (λ xs. xs ++ rest) is.parts in
     let stays : past_blanks (is.token ∷ more) ≡ is.token ∷ more = ap (λ k. cond (is_blank k) (past_blanks more) (is.token ∷ more)) is.is_variable in
     record {
-      first = is.token; others = more; some = ap past_blanks split ∙ stays;
+      first = is.token;
+      others = more;
+      some = ap past_blanks split ∙ stays;
       reads = ap (part_at found) (ap past_blanks split ∙ stays ∙ sym split) ∙ variable_again found part rest name stand is;
     }
 
@@ -279,7 +280,9 @@ rule_read found part rest rule written is few =
     let begins : first_is begins_compound (past_blanks (part ++ rest)) ≡ true = rule_first found.defined part rest rule written is in
     let first : (t : Lexeme) × (others : List Lexeme) × (past_blanks (part ++ rest) ≡ t ∷ others) = some_first begins_compound (past_blanks (part ++ rest)) begins in
     record {
-      first = first.0; others = first.1; some = first.2;
+      first = first.0;
+      others = first.1;
+      some = first.2;
       reads = rule_part found (past_blanks (part ++ rest)) (with_rule rule written found, rest) begins few (rules_again found (part ++ rest) rest rule written (rule_again found.defined part rest rule written is));
     }
 
@@ -294,7 +297,9 @@ part_read here next piece is few = of is.found
 
     moved : (found : Found) → next.0 ≡ found → PartRead here.0 found (is.part ++ next.1) next.1 → PartRead here.0 next.0 here.1 next.1
     moved found same read = record {
-      first = read.first; others = read.others; some = at ∙ read.some;
+      first = read.first;
+      others = read.others;
+      some = at ∙ read.some;
       reads = ap (part_at here.0) at ∙ read.reads ∙ ap (λ f. Ok (f, next.1)) (sym same);
     }
 

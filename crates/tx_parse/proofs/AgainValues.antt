@@ -1,11 +1,11 @@
 -- The values and the declarations that are in the grammar are read.
-use Rattle.std.proofs.Common.{◌≡◌, ◌≢◌, ℕ, ◌+◌, ◌≤◌, Bool, true, false, cond, not, ◌&&◌, ◌||◌, List, [], ◌∷◌, ◌++◌, length, drop, nat_lt, nat_eq, Option, Some, None, is_some, Result, Ok, Err, bytes_eq, refl, ap, sym, ◌∙◌, subst, arith, append_assoc, length-append, codes}
+use Rattle.std.proofs.Common.{◌≡◌, ◌≢◌, ℕ, ◌+◌, ◌≤◌, Bool, true, false, cond, not, ◌&&◌, ◌||◌, List, [], ◌∷◌, ◌++◌, length, nat_lt, nat_eq, Option, Some, None, is_some, Ok, bytes_eq, refl, ap, sym, ◌∙◌, subst, arith, append_assoc, length-append, codes}
 use Rattle.std.specs.List.{list_all}
 use Rattle.std.proofs.lemmas.List.{append-nil}
 use Rattle.std.proofs.lemmas.Slice.Eq.{bytes_eq-Decides}
 use Rattle.std.proofs.lemmas.Bool.Decides.{nat_tests}
-use Rattle.tx_read.specs.Reading.{◌>>=◌, in_turn}
-use Rattle.tx_lex.specs.Lexemes.{Lexeme, is_blank, is_name_token, is_hash, is_number, is_variable, is_mark, first_is}
+use Rattle.tx_read.specs.Reading.{◌>>=◌}
+use Rattle.tx_lex.specs.Lexemes.{Lexeme, is_blank, is_name_token, is_mark, first_is}
 use Rattle.tx_lex.specs.declared.token.TokenKind.{TokenKind}
 use Rattle.tx_lex.specs.declared.token.TokenKind.TheVariants.{Space, Comment, Name, Hash, Variable, Number, Mark}
 use Rattle.tx_select.specs.Grammar.{AreBlank}
@@ -13,17 +13,14 @@ use Rattle.tx_value.specs.Declarations.{Pair, declaration, valued}
 use Rattle.tx_value.specs.Names.{is_known, meaning_of}
 use Rattle.tx_value.specs.declared.property.Named.{Named}
 use Rattle.tx_parse.specs.Grammar.{IsValues, IsImportance, IsDeclaration}
-use Rattle.tx_parse.specs.Reads.{Read, Reads, met, expected, give, past_blanks, token_at, mark_at, added, values_from, at_least_one, values_at, place_of, is_important, important_word_at, importance_at, Spelled, spelled, spelled_at, ends_body, is_end, told, ended, declaration_at}
-use Rattle.tx_parse.specs.Values.{DeclarationValue, important_pairs}
+use Rattle.tx_parse.specs.Reads.{met, expected, past_blanks, token_at, mark_at, added, values_from, at_least_one, values_at, place_of, is_important, important_word_at, importance_at, Spelled, spelled, spelled_at, is_end, told, ended, declaration_at}
+use Rattle.tx_parse.specs.Values.{DeclarationValue}
 use Rattle.tx_parse.specs.Variables.{Defined, is_value, stands_for, both, stand_for, written}
 use Rattle.tx_parse.specs.declared.fault.SheetKind.TheVariants.{ValueTooLong, UnknownProperty}
+use Rattle.tx_parse.proofs.Cases.{and-both}
 use Rattle.tx_parse.proofs.Local.{behind_name}
 use Rattle.tx_parse.proofs.Turns.{turn_ok, spelled_ok}
 use Rattle.tx_parse.proofs.ValueSteps.{values_past, values_value, values_other, values_none}
-
-and-both : (a b : Bool) → (a && b) ≡ true → (a ≡ true) × (b ≡ true)
-and-both true b is = (refl, is)
-and-both false b is = absurd (let clash : false ≡ true = is in cc)
 
 -- ---- spaces and comments
 

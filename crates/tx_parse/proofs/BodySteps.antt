@@ -1,18 +1,16 @@
 -- The steps of reading declarations one behind another.
-use Rattle.std.proofs.Common.{◌≡◌, ℕ, zero, suc, ◌+◌, ◌-◌, ◌≤◌, ◌<◌, Bool, true, false, cond, List, [], ◌∷◌, length, drop, map, Ok, Err, refl, ap, sym, ◌∙◌, arith}
+use Rattle.std.proofs.Common.{◌≡◌, ℕ, zero, suc, ◌-◌, ◌≤◌, ◌<◌, Bool, true, false, cond, List, length, drop, Ok, Err, refl, ap, sym, ◌∙◌, arith}
 use Rattle.std.proofs.lemmas.List.{length-map, length-drop}
-use Rattle.tx_lex.specs.Lexemes.{Lexeme, lexeme, lexemes, lexemes_from}
+use Rattle.tx_lex.specs.Lexemes.{Lexeme, lexeme, lexemes_from}
 use Rattle.tx_lex.specs.declared.token.Token.{Token}
 use Rattle.tx_read.specs.Reading.{in_turn}
 use Rattle.tx_parse.specs.Answers.{GivesAs}
 use Rattle.tx_parse.specs.Grammar.{Body, nothing}
-use Rattle.tx_parse.specs.Reads.{Read, past_blanks, ends_body, past_end, item_at, next_in_body, body_from, body_at}
+use Rattle.tx_parse.specs.Reads.{past_blanks, ends_body, past_end, item_at, next_in_body, body_from, body_at}
 use Rattle.tx_parse.specs.Seen.{body_of}
 use Rattle.tx_parse.specs.Variables.{Defined}
-use Rattle.tx_parse.specs.declared.blocks.Block.{Block}
 use Rattle.tx_parse.specs.declared.fault.Stop.{Stop}
 use Rattle.tx_parse.specs.declared.fault.Stop.TheVariants.{At, Memory}
-use Rattle.tx_parse.specs.declared.fault.Wrong.{Wrong}
 use Rattle.tx_parse.proofs.Turns.{turn_ok, turn_err}
 
 -- how many tokens there are from a number on

@@ -1,5 +1,5 @@
 -- What an answer of a reader says of its parts.
-use Rattle.std.proofs.Common.{◌≡◌, List, Ok, Err, refl, ap}
+use Rattle.std.proofs.Common.{◌≡◌, Bool, true, false, ◌&&◌, List, Ok, Err, refl, ap}
 use Rattle.tx_read.specs.Reading.{◌>>=◌}
 use Rattle.tx_lex.specs.Lexemes.{Lexeme}
 use Rattle.tx_parse.specs.Reads.{Read}
@@ -19,3 +19,8 @@ pub both : {A B : Type 0} (first : Read A) (next : A × List Lexeme → Read B) 
     → (a : A × List Lexeme) × (first ≡ Ok a) × (next a ≡ Ok (b, rest))
 both (Ok a) next b rest is = (a, refl, is)
 both (Err fault) next b rest is = absurd (refused fault b rest is)
+
+-- both parts of a truth
+pub and-both : (a b : Bool) → (a && b) ≡ true → (a ≡ true) × (b ≡ true)
+and-both true b is = (refl, is)
+and-both false b is = absurd (let clash : false ≡ true = is in cc)

@@ -1,10 +1,9 @@
 -- Variables, and what they stand for, over the text that they are read of.
-use Rattle.std.proofs.Common.{◌≡◌, ℕ, ◌+◌, ◌<◌, Bool, true, false, cond, List, [], ◌∷◌, ◌++◌, length, take, drop, map, Option, Some, None, option_map, option_copied, Bor, bytes_eq, refl, ap, sym, ◌∙◌, is_some, if◌then◌else◌, IsTrue}
+use Rattle.std.proofs.Common.{◌≡◌, ℕ, ◌+◌, Bool, true, false, cond, List, [], ◌∷◌, take, drop, map, Some, None, option_map, bytes_eq, refl, ap, ◌∙◌}
 use Rattle.indexmap.specs.IndexMap.{insert_entry}
-use Rattle.tx_lex.specs.Lexemes.{Lexeme, lexeme, lexemes, IsNth, token_bytes, is_variable}
+use Rattle.tx_lex.specs.Lexemes.{Lexeme, lexeme, lexemes, is_variable}
 use Rattle.tx_lex.specs.declared.token.Token.{Token}
 use Rattle.tx_tree.specs.Name.{is_name}
-use Rattle.tx_value.specs.Theme.{theme_name_of}
 use Rattle.tx_parse.specs.Seen.{defined_in, definition_in}
 use Rattle.tx_parse.specs.Variables.{latest, stands_for, or_of_theme, variable_stands_for}
 
@@ -29,7 +28,7 @@ insert_in text name tokens (entry ∷ entries) = of (bytes_eq name entry.0) (ins
   where
     of : (same : Bool) → map (definition_in text) (insert_entry bytes_eq entries name tokens) ≡ insert_entry bytes_eq (map (definition_in text) entries) name (lexemes text tokens)
         → map (definition_in text) (cond same ((entry.0, tokens) ∷ entries) (entry ∷ insert_entry bytes_eq entries name tokens))
-            ≡ cond same ((entry.0, lexemes text tokens) ∷ map (definition_in text) entries) (definition_in text entry ∷ insert_entry bytes_eq (map (definition_in text) entries) name (lexemes text tokens))
+        ≡ cond same ((entry.0, lexemes text tokens) ∷ map (definition_in text) entries) (definition_in text entry ∷ insert_entry bytes_eq (map (definition_in text) entries) name (lexemes text tokens))
     of true more = refl
     of false more = ap (λ es. definition_in text entry ∷ es) more
 

@@ -1,18 +1,17 @@
 -- The bodies that are read are in the grammar.
-use Rattle.std.proofs.Common.{◌≡◌, ◌⊎◌, inl, inr, ℕ, zero, suc, ◌+◌, ◌≤◌, ◌<◌, Bool, true, false, cond, not, ◌&&◌, ◌||◌, List, [], ◌∷◌, ◌++◌, length, drop, Ok, Err, refl, ap, sym, ◌∙◌, subst, arith, append_assoc}
+use Rattle.std.proofs.Common.{◌≡◌, ◌⊎◌, inl, inr, ℕ, zero, suc, ◌≤◌, ◌<◌, Bool, true, false, cond, not, ◌&&◌, ◌||◌, List, [], ◌∷◌, ◌++◌, length, Ok, refl, ap, sym, ◌∙◌, subst, arith, append_assoc}
 use Rattle.std.proofs.lemmas.List.{append-nil}
-use Rattle.tx_read.specs.Reading.{◌>>=◌, in_turn, Items}
-use Rattle.tx_lex.specs.Lexemes.{Lexeme, is_blank, is_mark, first_is}
-use Rattle.tx_lex.specs.declared.token.TokenKind.{TokenKind}
-use Rattle.tx_lex.specs.declared.token.TokenKind.TheVariants.{Space, Comment, Name, Hash, Variable, Number, Mark}
+use Rattle.tx_read.specs.Reading.{in_turn}
+use Rattle.tx_lex.specs.Lexemes.{Lexeme, is_blank, is_mark}
+use Rattle.tx_lex.specs.declared.token.TokenKind.TheVariants.{Mark}
 use Rattle.tx_lex.proofs.TokenKinds.{mark-kind}
 use Rattle.tx_select.specs.Grammar.{AreBlank}
-use Rattle.tx_parse.specs.Grammar.{Body, nothing, one, joined, counted, IsDeclaration, IsEnded, IsBody}
-use Rattle.tx_parse.specs.Reads.{Read, Reads, give, expected, past_blanks, ends_body, past_end, is_end, declaration_at, with_declarations, item_at, next_in_body, body_from, body_at, inline_at}
+use Rattle.tx_parse.specs.Grammar.{Body, nothing, one, IsDeclaration, IsBody}
+use Rattle.tx_parse.specs.Reads.{give, past_blanks, ends_body, past_end, is_end, declaration_at, with_declarations, item_at, next_in_body, body_from, body_at}
 use Rattle.tx_parse.specs.Values.{DeclarationValue}
 use Rattle.tx_parse.specs.Variables.{Defined}
 use Rattle.tx_parse.specs.declared.fault.SheetKind.TheVariants.{Expected}
-use Rattle.tx_parse.proofs.Cases.{Gave, given, refused, both as parts_of}
+use Rattle.tx_parse.proofs.Cases.{Gave, given, refused, both as parts_of, and-both}
 use Rattle.tx_parse.proofs.Counts.{with_body, with_nothing, nothing_with, with_more, one_alone, joined_small, counted_small}
 use Rattle.tx_parse.proofs.FoundValues.{Takes, past_found, DeclarationFound, declaration_found}
 use Rattle.tx_parse.proofs.Local.{wrong_of}
@@ -25,7 +24,10 @@ body_blank defined ts blank = record { ended = []; last = ts; final = nothing; i
 
 pub body_last : (defined : Defined) (blank piece : List Lexeme) (declarations : List DeclarationValue) → AreBlank blank → IsDeclaration defined piece declarations → IsBody defined (blank ++ piece) (one declarations)
 body_last defined blank piece declarations is_blank is = record {
-  ended = []; last = blank ++ piece; final = one declarations; items = refl;
+  ended = [];
+  last = blank ++ piece;
+  final = one declarations;
+  items = refl;
   piece = inr (blank, piece, declarations, refl, is_blank, is, refl);
   sum = one_alone declarations;
 }
@@ -35,7 +37,9 @@ is_small defined ts body is = subst (λ (b : Body). b.written ≤ 4294967295) (s
 
 pub body_after : (defined : Defined) (blank block : List Lexeme) (t : Lexeme) (body : Body) → AreBlank blank → t.kind ≡ Mark 59 → IsBody defined block body → IsBody defined (blank ++ (t ∷ block)) body
 body_after defined blank block t body all is_mark is = record {
-  ended = nothing ∷ is.ended; last = is.last; final = is.final;
+  ended = nothing ∷ is.ended;
+  last = is.last;
+  final = is.final;
   items = (block, ((blank, t, refl, is_mark, inl (all, refl)), is.items));
   piece = is.piece;
   sum = sym (nothing_with body (is_small defined block body is)) ∙ ap (with_body nothing) is.sum;
@@ -44,7 +48,9 @@ body_after defined blank block t body all is_mark is = record {
 pub body_behind : (defined : Defined) (blank piece block : List Lexeme) (t : Lexeme) (declarations : List DeclarationValue) (body : Body) → AreBlank blank → IsDeclaration defined piece declarations → t.kind ≡ Mark 59
     → IsBody defined block body → IsBody defined ((blank ++ piece) ++ (t ∷ block)) (with_body (one declarations) body)
 body_behind defined blank piece block t declarations body all declared is_mark is = record {
-  ended = one declarations ∷ is.ended; last = is.last; final = is.final;
+  ended = one declarations ∷ is.ended;
+  last = is.last;
+  final = is.final;
   items = (block, ((blank ++ piece, t, refl, is_mark, inr (blank, piece, declarations, refl, all, declared, refl)), is.items));
   piece = is.piece;
   sum = ap (with_body (one declarations)) is.sum;
@@ -67,10 +73,6 @@ pub record BodyFound (inline : Bool) (defined : Defined) (found : Body) (ts : Li
 ends_behind : (inline : Bool) (ts front here block rest : List Lexeme) → ts ≡ front ++ here → EndsSo inline here block rest → EndsSo inline ts (front ++ block) rest
 ends_behind true ts front here block rest parts ends = (parts ∙ ap (λ xs. front ++ xs) ends.0, ends.1)
 ends_behind false ts front here block rest parts ends = (ends.0, parts ∙ ap (λ xs. front ++ xs) ends.1 ∙ sym (append_assoc front block (ends.0 ∷ rest)), ends.2)
-
-and-both : (a b : Bool) → (a && b) ≡ true → (a ≡ true) × (b ≡ true)
-and-both true b is = (refl, is)
-and-both false b is = absurd (let clash : false ≡ true = is in cc)
 
 ends_here : (inline : Bool) (here rest : List Lexeme) → ends_body inline here ≡ true → past_end inline here ≡ rest → EndsSo inline here [] rest
 ends_here true [] rest is past = (refl, sym past)

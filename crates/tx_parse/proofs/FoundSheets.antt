@@ -1,10 +1,10 @@
 -- The rules, variables and sheets that are read are in the grammar.
-use Rattle.std.proofs.Common.{◌≡◌, ◌⊎◌, inl, inr, ℕ, zero, suc, ◌+◌, ◌≤◌, ◌<◌, Bool, true, false, cond, List, [], ◌∷◌, ◌++◌, length, drop, nat_lt, Result, Ok, Err, refl, ap, sym, ◌∙◌, subst, arith, append_assoc, length-append, IsTrue}
+use Rattle.std.proofs.Common.{◌≡◌, ◌⊎◌, inl, inr, ℕ, zero, suc, ◌+◌, ◌≤◌, ◌<◌, Bool, true, false, cond, List, [], ◌∷◌, ◌++◌, length, drop, nat_lt, Result, Ok, Err, refl, ap, sym, ◌∙◌, subst, arith, append_assoc, length-append}
 use Rattle.std.proofs.lemmas.List.{append-nil}
-use Rattle.tx_tree.specs.Name.{is_name, IsName}
-use Rattle.tx_read.specs.Reading.{◌>>=◌, in_turn, Items}
+use Rattle.tx_tree.specs.Name.{is_name}
+use Rattle.tx_read.specs.Reading.{in_turn, Items}
 use Rattle.tx_lex.specs.Lexemes.{Lexeme, is_variable, is_mark}
-use Rattle.tx_lex.specs.declared.token.TokenKind.TheVariants.{Variable, Mark}
+use Rattle.tx_lex.specs.declared.token.TokenKind.TheVariants.{Mark}
 use Rattle.tx_lex.proofs.TokenKinds.{mark-kind, variable-kind}
 use Rattle.tx_select.specs.Grammar.{AreBlank, IsWhole}
 use Rattle.tx_select.specs.Laws.{StandsBefore}
@@ -15,11 +15,10 @@ use Rattle.tx_select.specs.declared.value.Compound.{Compound}
 use Rattle.tx_select.specs.declared.value.Selector.{Selector}
 use Rattle.tx_select.proofs.Exact.{selectors-read}
 use Rattle.tx_parse.specs.Grammar.{Body, nothing, IsValues, IsBody, AreSelectors, IsRule, IsVariable, Found, nothing_found, with_variable, with_rule, IsPart, IsSheet}
-use Rattle.tx_parse.specs.Reads.{Read, Reads, give, met, expected, past_blanks, mark_at, values_at, body_at, kind_of, as_selector, spaced_selector_at, goes_on_at, then_selectors, selectors_from, selectors_at, rule_of, rule_at, definition_at, variable_in_sheet, rule_in_sheet, part_at, next_in_sheet, sheet_from, sheet_at, inline_at}
+use Rattle.tx_parse.specs.Reads.{Read, give, met, expected, past_blanks, mark_at, values_at, body_at, kind_of, as_selector, spaced_selector_at, goes_on_at, then_selectors, selectors_from, selectors_at, rule_of, rule_at, definition_at, variable_in_sheet, rule_in_sheet, part_at, next_in_sheet, sheet_from, sheet_at, inline_at}
 use Rattle.tx_parse.specs.Values.{RuleValue}
 use Rattle.tx_parse.specs.Variables.{Defined}
 use Rattle.tx_parse.specs.declared.fault.SheetKind.TheVariants.{Expected, TooManyRules}
-use Rattle.tx_parse.specs.declared.fault.Wrong.{Wrong}
 use Rattle.tx_parse.proofs.Cases.{Gave, given, refused, both as parts_of}
 use Rattle.tx_parse.proofs.FoundBodies.{BodyFound, body_found, body_itself}
 use Rattle.tx_parse.proofs.FoundValues.{Takes, past_found, MarkFound, mark_found, values_found, blank_behind}
@@ -133,10 +132,16 @@ rule_found defined ts rest rule is =
       head.parts ∙ ap (λ xs. head.head ++ (head.opening ∷ xs)) (block.ends.1 ∙ ap (λ r. block.block ++ (block.ends.0 ∷ r)) same ∙ sym (append_assoc block.block (block.ends.0 ∷ []) rest))
           ∙ sym (append_assoc head.head (head.opening ∷ (block.block ++ (block.ends.0 ∷ []))) rest),
       record {
-        head = head.head; opening = head.opening; block = block.block; closing = block.ends.0; parts = refl;
+        head = head.head;
+        opening = head.opening;
+        block = block.block;
+        closing = block.ends.0;
+        parts = refl;
         selectors = subst (AreSelectors head.head) (sym head.together) head.selectors;
         few = subst (λ (l : List Selector). length l ≤ 64) (sym head.together) head.few;
-        is_open = head.is_open; body = body_itself false defined mid behind body block; is_close = block.ends.2;
+        is_open = head.is_open;
+        body = body_itself false defined mid behind body block;
+        is_close = block.ends.2;
       },
     )
 
@@ -206,8 +211,19 @@ variable_found found next t ts rest variable is = of (is_name (drop 1 t.bytes)) 
             ap (λ xs. t ∷ xs) (has.parts ∙ ap (λ r. has.gap ++ (has.colon ∷ (has.values ++ (has.end ∷ r)))) same.1 ∙ ap (λ xs. has.gap ++ (has.colon ∷ xs)) (sym (append_assoc has.values (has.end ∷ []) rest))
                 ∙ sym (append_assoc has.gap (has.colon ∷ (has.values ++ (has.end ∷ []))) rest)),
             record {
-              token = t; gap = has.gap; colon = has.colon; values = has.values; end = has.end; parts = refl; is_variable = variable-kind t.kind variable; named = refl; is_name = named;
-              blank = has.blank; is_colon = has.is_colon; are_values = has.are_values; is_end = has.is_end;
+              token = t;
+              gap = has.gap;
+              colon = has.colon;
+              values = has.values;
+              end = has.end;
+              parts = refl;
+              is_variable = variable-kind t.kind variable;
+              named = refl;
+              is_name = named;
+              blank = has.blank;
+              is_colon = has.is_colon;
+              are_values = has.are_values;
+              is_end = has.is_end;
             },
           ),
           sym same.0,
@@ -261,11 +277,20 @@ part_before : (found next all : Found) (ts here mid rest : List Lexeme) → Take
 part_before found next all ts here mid rest blank (inl has) more = record {
   pieces = (blank.0 ++ has.2.0) ∷ more.pieces;
   behind = more.behind;
-  parts = ((next, mid), (record {
-    before = blank.0; part = has.2.0; parts = refl; blank = blank.2;
-    rest = blank.1 ∙ ap (λ xs. blank.0 ++ xs) has.2.1 ∙ sym (append_assoc blank.0 has.2.0 mid);
-    found = inl (has.0, has.1, has.2.2, has.3);
-  }, more.parts));
+  parts = (
+    (next, mid),
+    (
+      record {
+        before = blank.0;
+        part = has.2.0;
+        parts = refl;
+        blank = blank.2;
+        rest = blank.1 ∙ ap (λ xs. blank.0 ++ xs) has.2.1 ∙ sym (append_assoc blank.0 has.2.0 mid);
+        found = inl (has.0, has.1, has.2.2, has.3);
+      },
+      more.parts,
+    ),
+  );
   blank = more.blank;
   few = λ few. more.few (subst (λ (f : Found). length f.rules ≤ 10000) (sym has.3) few);
   whole = more.whole;
@@ -273,11 +298,20 @@ part_before found next all ts here mid rest blank (inl has) more = record {
 part_before found next all ts here mid rest blank (inr has) more = record {
   pieces = (blank.0 ++ has.2.0) ∷ more.pieces;
   behind = more.behind;
-  parts = ((next, mid), (record {
-    before = blank.0; part = has.2.0; parts = refl; blank = blank.2;
-    rest = blank.1 ∙ ap (λ xs. blank.0 ++ xs) has.2.1 ∙ sym (append_assoc blank.0 has.2.0 mid);
-    found = inr (has.0, has.1, has.2.2, has.3);
-  }, more.parts));
+  parts = (
+    (next, mid),
+    (
+      record {
+        before = blank.0;
+        part = has.2.0;
+        parts = refl;
+        blank = blank.2;
+        rest = blank.1 ∙ ap (λ xs. blank.0 ++ xs) has.2.1 ∙ sym (append_assoc blank.0 has.2.0 mid);
+        found = inr (has.0, has.1, has.2.2, has.3);
+      },
+      more.parts,
+    ),
+  );
   blank = more.blank;
   few = λ few. more.few (subst (λ (f : Found). length f.rules ≤ 10000) (sym has.3) (one_more (length found.rules) (length (found.rules ++ (has.0 ∷ []))) has.4 (length-append found.rules (has.0 ∷ []))));
   whole = more.whole;
@@ -295,7 +329,9 @@ sheet_from_found (suc n) found all ts rest is = of (past_blanks ts) (past_found 
     of [] blank is more =
         let same : (found ≡ all) × ([] ≡ rest) = given found all [] rest is in
         record {
-          pieces = []; behind = ts; parts = ap (λ f. (f, ts)) same.0;
+          pieces = [];
+          behind = ts;
+          parts = ap (λ f. (f, ts)) same.0;
           blank = subst AreBlank (sym (blank.1 ∙ append-nil blank.0)) blank.2;
           few = subst (λ (f : Found). length f.rules ≤ 10000) same.0;
           whole = sym same.1;

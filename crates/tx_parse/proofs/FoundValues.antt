@@ -1,27 +1,25 @@
 -- The values and the declarations that are read are in the grammar.
-use Rattle.std.proofs.Common.{◌≡◌, ◌≢◌, ℕ, ◌+◌, ◌≤◌, Bool, true, false, cond, not, ◌&&◌, List, [], ◌∷◌, ◌++◌, length, drop, filter, nat_lt, Option, Some, None, Result, Ok, Err, bytes_eq, refl, ap, sym, ◌∙◌, subst, arith, append_assoc, length-append, codes}
+use Rattle.std.proofs.Common.{◌≡◌, ◌≢◌, ℕ, ◌+◌, ◌≤◌, Bool, true, false, cond, not, ◌&&◌, List, [], ◌∷◌, ◌++◌, length, nat_lt, Option, Some, None, Result, Ok, Err, bytes_eq, refl, ap, sym, ◌∙◌, subst, arith, append_assoc, length-append, codes}
 use Rattle.std.specs.List.{list_all}
 use Rattle.std.proofs.lemmas.List.{append-nil}
 use Rattle.std.proofs.lemmas.List.Elements.{filter-append}
 use Rattle.std.proofs.lemmas.List.Folds.{list_all-append}
 use Rattle.std.proofs.lemmas.Slice.Eq.{bytes_eq-Decides}
-use Rattle.tx_read.specs.Reading.{◌>>=◌, in_turn}
-use Rattle.tx_lex.specs.Lexemes.{Lexeme, is_blank, is_name_token, is_mark, first_is}
-use Rattle.tx_lex.specs.declared.token.TokenKind.TheVariants.{Name, Mark}
+use Rattle.tx_read.specs.Reading.{◌>>=◌}
+use Rattle.tx_lex.specs.Lexemes.{Lexeme, is_blank, is_name_token, is_mark}
+use Rattle.tx_lex.specs.declared.token.TokenKind.TheVariants.{Mark}
 use Rattle.tx_lex.proofs.TokenKinds.{mark-kind, name-kind}
 use Rattle.tx_select.specs.Grammar.{AreBlank}
 use Rattle.tx_value.specs.Declarations.{Pair, declaration}
 use Rattle.tx_value.specs.Names.{is_known}
 use Rattle.tx_value.specs.declared.fault.ValueFault.{ValueFault}
 use Rattle.tx_parse.specs.Grammar.{IsValues, IsImportance, IsDeclaration}
-use Rattle.tx_parse.specs.Reads.{Read, Reads, met, expected, give, past_blanks, token_at, mark_at, added, values_from, at_least_one, values_at, place_of, first_value_at, is_important, important_word_at, importance_at, Spelled, spelled, spelled_at, is_end, told, ended, declaration_at}
+use Rattle.tx_parse.specs.Reads.{Read, met, expected, past_blanks, token_at, mark_at, added, values_from, at_least_one, values_at, place_of, first_value_at, is_important, important_word_at, importance_at, Spelled, spelled, spelled_at, is_end, told, ended, declaration_at}
 use Rattle.tx_parse.specs.Values.{DeclarationValue, important_pairs}
 use Rattle.tx_parse.specs.Variables.{Defined, is_value, stands_for, both, stand_for, written}
 use Rattle.tx_parse.specs.declared.fault.SheetKind.TheVariants.{Expected, UndefinedVariable, ValueTooLong, UnknownProperty, BadValue}
-use Rattle.tx_parse.specs.declared.fault.Wrong.{Wrong}
-use Rattle.tx_parse.proofs.Cases.{Gave, given, refused, both as parts_of}
+use Rattle.tx_parse.proofs.Cases.{Gave, given, refused, both as parts_of, and-both}
 use Rattle.tx_parse.proofs.Local.{wrong_of, behind_name}
-use Rattle.tx_parse.proofs.ValueSteps.{added_rest}
 
 -- tokens of which the first ones are so
 abbrev pub Takes : (List Lexeme → Type 0) → List Lexeme → List Lexeme → Type 0
@@ -185,10 +183,6 @@ blank_behind defined piece blank stand all values =
 
 -- ---- declarations
 
-and-both : (a b : Bool) → (a && b) ≡ true → (a ≡ true) × (b ≡ true)
-and-both true b is = (refl, is)
-and-both false b is = absurd (let clash : false ≡ true = is in cc)
-
 important_found : (mark : Lexeme) (ts rest : List Lexeme) (b : Bool) → mark.kind ≡ Mark 33 → important_word_at ts ≡ Ok (b, rest) → Takes (λ a. IsImportance a b) (mark ∷ ts) rest
 important_found mark ts rest b is_mark is =
     let first : (w : Lexeme × List Lexeme) × (token_at is_important (past_blanks ts) ≡ Ok w) × (Ok (true, past_blanks w.1) ≡ Ok (b, rest)) =
@@ -305,10 +299,22 @@ behind_found inline defined name ts rest declarations is_name is =
           ∙ ap (λ xs. found.gap ++ (found.colon ∷ xs)) (sym (append_assoc found.values found.ending rest))
           ∙ sym (append_assoc found.gap (found.colon ∷ (found.values ++ found.ending)) rest));
       grammar = record {
-        name = name; gap = found.gap; colon = found.colon; values = found.values; ending = found.ending;
-        parts = refl; is_name = name-kind name.kind is_name; blank = found.blank; is_colon = found.is_colon;
-        stand = one.0.0.stand; are_values = found.are_values; important = one.0.0.important; importance = found.importance;
-        pairs = end.pairs; valued = ap (λ (t : Lexeme). declaration t.bytes one.0.0.stand) (sym found.named) ∙ end.valued; stands = end.stands;
+        name = name;
+        gap = found.gap;
+        colon = found.colon;
+        values = found.values;
+        ending = found.ending;
+        parts = refl;
+        is_name = name-kind name.kind is_name;
+        blank = found.blank;
+        is_colon = found.is_colon;
+        stand = one.0.0.stand;
+        are_values = found.are_values;
+        important = one.0.0.important;
+        importance = found.importance;
+        pairs = end.pairs;
+        valued = ap (λ (t : Lexeme). declaration t.bytes one.0.0.stand) (sym found.named) ∙ end.valued;
+        stands = end.stands;
       };
       ends = end.ends;
     }

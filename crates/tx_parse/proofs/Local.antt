@@ -1,14 +1,12 @@
 -- What is read of a declaration depends on nothing behind the token at which it stops or meets a fault.
-use Rattle.std.proofs.Common.{◌≡◌, ℕ, zero, suc, ◌+◌, ◌≤◌, ◌<◌, Bool, true, false, cond, not, ◌&&◌, ◌||◌, List, [], ◌∷◌, ◌++◌, length, drop, nat_lt, Option, Some, None, Result, Ok, Err, refl, ap, sym, ◌∙◌, arith, codes}
-use Rattle.tx_tree.specs.Name.{is_name}
+use Rattle.std.proofs.Common.{◌≡◌, ℕ, ◌+◌, Bool, true, false, cond, not, ◌&&◌, ◌||◌, List, [], ◌∷◌, ◌++◌, length, nat_lt, Option, Some, None, Result, Ok, Err, refl}
 use Rattle.tx_read.specs.Reading.{◌>>=◌, in_turn}
 use Rattle.tx_read.proofs.LocalReaders.{Plain, turn, same, Step, Take, Leave, Refuse, stepped, at_end, by_first, first-plain, give-plain}
-use Rattle.tx_lex.specs.Lexemes.{Lexeme, is_blank, is_name_token, is_mark, first_is}
+use Rattle.tx_lex.specs.Lexemes.{Lexeme, is_blank, is_name_token, is_mark}
 use Rattle.tx_value.specs.Declarations.{Pair, declaration}
 use Rattle.tx_value.specs.Names.{is_known}
 use Rattle.tx_value.specs.declared.fault.ValueFault.{ValueFault}
-use Rattle.tx_parse.specs.Grammar.{Body}
-use Rattle.tx_parse.specs.Reads.{Read, Reads, met, expected, give, past_blanks, token_at, mark_at, added, values_from, at_least_one, values_at, place_of, first_value_at, is_important, important_word_at, importance_at, Spelled, spelled, spelled_at, ends_body, is_end, told, ended, declaration_at, with_declarations, item_at, past_end, next_in_body, body_from}
+use Rattle.tx_parse.specs.Reads.{Reads, met, expected, give, past_blanks, token_at, mark_at, added, values_from, at_least_one, values_at, place_of, first_value_at, is_important, important_word_at, importance_at, Spelled, spelled, spelled_at, is_end, told, ended, declaration_at}
 use Rattle.tx_parse.specs.Values.{DeclarationValue, important_pairs}
 use Rattle.tx_parse.specs.Variables.{Defined, is_value, stands_for}
 use Rattle.tx_parse.specs.declared.fault.SheetKind.{SheetKind}

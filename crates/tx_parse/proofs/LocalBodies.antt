@@ -1,17 +1,16 @@
 -- The same of declarations one behind another. Each one takes something, so that they come to an end.
-use Rattle.std.proofs.Common.{◌≡◌, ℕ, zero, suc, ◌+◌, ◌≤◌, ◌<◌, Bool, true, false, cond, not, ◌&&◌, List, [], ◌∷◌, ◌++◌, length, drop, Result, Ok, Err, refl, ap, sym, ◌∙◌, subst, arith}
+use Rattle.std.proofs.Common.{◌≡◌, ℕ, zero, suc, ◌+◌, ◌≤◌, ◌<◌, Bool, true, false, cond, List, [], ◌∷◌, ◌++◌, length, Result, Ok, Err, refl, ap, ◌∙◌, subst, arith}
 use Rattle.tx_read.specs.Reading.{◌>>=◌, in_turn}
-use Rattle.tx_read.proofs.LocalReaders.{Plain, turn, same, Step, Take, Leave, Refuse, stepped, by_first, first-plain, give-plain}
+use Rattle.tx_read.proofs.LocalReaders.{Plain, turn, same, Step, Take, Leave, stepped, by_first, first-plain, give-plain}
 use Rattle.tx_lex.specs.Lexemes.{Lexeme, is_name_token, is_mark}
 use Rattle.tx_value.specs.Names.{is_known}
 use Rattle.tx_parse.specs.Grammar.{Body, nothing}
 use Rattle.tx_parse.specs.Reads.{Read, Reads, met, expected, give, past_blanks, ends_body, declaration_at, with_declarations, item_at, past_end, next_in_body, body_from, body_at, inline_at}
 use Rattle.tx_parse.specs.Values.{DeclarationValue}
 use Rattle.tx_parse.specs.Variables.{Defined}
-use Rattle.tx_parse.specs.declared.fault.SheetKind.{SheetKind}
 use Rattle.tx_parse.specs.declared.fault.SheetKind.TheVariants.{Expected, UnknownProperty}
 use Rattle.tx_parse.specs.declared.fault.Wrong.{Wrong}
-use Rattle.tx_parse.proofs.Cases.{Gave, given, refused, both}
+use Rattle.tx_parse.proofs.Cases.{given, refused, both}
 use Rattle.tx_parse.proofs.Local.{wrong_of, expected-plain, blanks-plain, spaced-plain, declaration-plain, behind_name, behind_name-plain}
 use Rattle.tx_parse.proofs.Scans.{plain_shorter}
 
@@ -155,9 +154,9 @@ body_enough inline defined found (suc n) zero ts less lower = absurd (omega (ari
 body_enough inline defined found (suc n) (suc m) ts less lower =
     ap (λ r. cond (ends_body inline (past_blanks ts)) (Ok (found, past_end inline (past_blanks ts))) r)
     (turn_same (item_at inline defined found) (body_from n inline defined) (body_from m inline defined) (past_blanks ts) (λ more rest is.
-        let short : length rest < length (past_blanks ts) = item_shorter inline defined found more (past_blanks ts) rest is in
-        let past : length (past_blanks ts) ≤ length ts = past_shorter ts in
-        body_enough inline defined more n m rest (omega (arith, short, past, less)) (omega (arith, short, past, lower))))
+    let short : length rest < length (past_blanks ts) = item_shorter inline defined found more (past_blanks ts) rest is in
+    let past : length (past_blanks ts) ≤ length ts = past_shorter ts in
+    body_enough inline defined more n m rest (omega (arith, short, past, less)) (omega (arith, short, past, lower))))
 
 pub body-plain : (inline : Bool) (defined : Defined) → Plain (body_at inline defined)
 unfolding body_at

@@ -9,7 +9,6 @@ use Rattle.tx_parse.specs.Reads.{Reads, Read, past_blanks, expected, spaced_sele
 use Rattle.tx_parse.specs.Seen.{selectors_in}
 use Rattle.tx_parse.specs.declared.fault.Stop.{Stop}
 use Rattle.tx_parse.specs.declared.fault.Stop.TheVariants.{At, Memory}
-use Rattle.tx_parse.specs.declared.fault.Wrong.{Wrong}
 use Rattle.tx_parse.proofs.Turns.{turn_ok, turn_err}
 
 abbrev pub behind_one : ℕ → List Selector → Selector → Reads (List Selector)

@@ -1,5 +1,5 @@
 -- One reader behind another, where the first one's answer is known.
-use Rattle.std.proofs.Common.{◌≡◌, ℕ, Bool, List, [], ◌∷◌, Ok, Err, refl, ap, sym, ◌∙◌}
+use Rattle.std.proofs.Common.{◌≡◌, ℕ, Bool, List, Ok, Err, ap, sym, ◌∙◌}
 use Rattle.tx_read.specs.Reading.{◌>>=◌, in_turn}
 use Rattle.tx_lex.specs.Lexemes.{Lexeme, lexemes_from}
 use Rattle.tx_lex.specs.declared.token.Token.{Token}
@@ -7,7 +7,7 @@ use Rattle.tx_parse.specs.Answers.{GivesAs, GivesSame, gathered_in}
 use Rattle.tx_parse.specs.Seen.{spelled_in}
 use Rattle.tx_parse.specs.declared.fault.Stop.{Stop}
 use Rattle.tx_parse.specs.declared.fault.Stop.TheVariants.{At, Memory}
-use Rattle.tx_parse.specs.Reads.{Reads, Read, past_blanks, place_of, mark_at, first_value_at, values_at, importance_at, Spelled, spelled, spelled_at, give}
+use Rattle.tx_parse.specs.Reads.{Reads, past_blanks, place_of, mark_at, first_value_at, values_at, importance_at, Spelled, spelled, spelled_at, give}
 use Rattle.tx_parse.specs.Variables.{Defined}
 use Rattle.tx_parse.specs.declared.fault.Wrong.{Wrong}
 

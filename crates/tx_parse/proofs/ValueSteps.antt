@@ -74,7 +74,6 @@ pub values_fault : (defined : Defined) (found : List Lexeme) (t : Lexeme) (ts : 
 values_fault defined found t ts fault blank value is =
     values_value defined found t ts blank value ∙ ap (λ r. r >>= (λ more. values_from defined more.0 ts)) is
 
-
 -- ---- the loop: no blank stands here, and the values so far and those from here on are the values in all
 
 pub record SoFar (defined : Defined) (found here start : List Lexeme) : Type 0 where

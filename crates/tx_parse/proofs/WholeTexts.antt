@@ -5,13 +5,12 @@ use Rattle.tx_lex.specs.Lexemes.{Lexeme}
 use Rattle.tx_lex.specs.Lexing.{lexed}
 use Rattle.tx_lex.specs.declared.token.Fault.{Fault}
 use Rattle.tx_parse.specs.Default.{sheet_value, GivesSheet, IsReadAs, IsInlineReadAs}
-use Rattle.tx_parse.specs.Grammar.{Body, Found, IsSheet, IsBody}
+use Rattle.tx_parse.specs.Grammar.{Body, Found}
 use Rattle.tx_parse.specs.Reads.{Read, sheet_at, inline_at}
 use Rattle.tx_parse.specs.Texts.{Report, tokens_of, of_lexer, reported, judged, sheet_of, inline_of, IsSheetText, IsInlineText, Refuses, GivesInline}
 use Rattle.tx_parse.specs.Values.{DeclarationValue, SheetValue}
 use Rattle.tx_parse.specs.declared.fault.SheetFault.{SheetFault}
 use Rattle.tx_parse.specs.declared.fault.SheetFault.TheVariants.{Text, NoMemory}
-use Rattle.tx_parse.specs.declared.fault.Wrong.{Wrong}
 use Rattle.tx_parse.proofs.AgainBodies.{inline_again}
 use Rattle.tx_parse.proofs.AgainSheets.{sheet_again}
 use Rattle.tx_parse.proofs.FoundSheets.{sheet_found, inline_found}

@@ -1,5 +1,5 @@
 -- The grammar of stylesheets and of inline texts, by its productions.
-use Rattle.std.specs.Prelude.{◌≡◌, ◌≢◌, ◌⊎◌, ℕ, ◌+◌, ◌≤◌, min, Bool, true, false, List, [], ◌∷◌, ◌++◌, length, drop, map, flat_map, Option, Some, None, Ok, codes}
+use Rattle.std.specs.Prelude.{◌≡◌, ◌≢◌, ◌⊎◌, ℕ, ◌+◌, ◌≤◌, min, Bool, true, false, List, [], ◌∷◌, ◌++◌, length, drop, Some, Ok, codes}
 use Rattle.std.specs.List.{list_all}
 use Rattle.tx_read.specs.Reading.{Items}
 use Rattle.tx_lex.specs.Lexemes.{Lexeme}
@@ -154,8 +154,8 @@ pub record IsPart (here : Found × List Lexeme) (piece : List Lexeme) (next : Fo
   pub blank : AreBlank before
   pub rest : here.1 ≡ piece ++ next.1
   pub found :
-    ((name : List ℕ) × (stand : List Lexeme) × IsVariable here.0.defined part name stand × (next.0 ≡ with_variable name stand here.0))
-    ⊎ ((rule : RuleValue) × (written : ℕ) × IsRule here.0.defined part rule written × (next.0 ≡ with_rule rule written here.0))
+      ((name : List ℕ) × (stand : List Lexeme) × IsVariable here.0.defined part name stand × (next.0 ≡ with_variable name stand here.0))
+      ⊎ ((rule : RuleValue) × (written : ℕ) × IsRule here.0.defined part rule written × (next.0 ≡ with_rule rule written here.0))
 
 -- variables and rules one behind another, at most 10,000 rules
 pub record IsSheet (ts : List Lexeme) (found : Found) : Type 0 where

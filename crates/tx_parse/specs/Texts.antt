@@ -8,7 +8,7 @@ use Rattle.tx_lex.specs.declared.token.LexKind.{LexKind}
 use Rattle.tx_lex.specs.declared.token.LexKind.TheVariants as lex
 use Rattle.tx_lex.specs.declared.token.Scanned.{Scanned}
 use Rattle.tx_lex.specs.declared.token.Token.{Token}
-use Rattle.tx_parse.specs.Values.{DeclarationValue, SheetValue}
+use Rattle.tx_parse.specs.Values.{DeclarationValue}
 use Rattle.tx_parse.specs.Grammar.{Body, Found, IsSheet, IsBody}
 use Rattle.tx_parse.specs.declared.fault.Wrong.{Wrong}
 use Rattle.tx_parse.specs.Reads.{Read, sheet_at, inline_at}

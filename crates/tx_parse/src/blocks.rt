@@ -57,7 +57,8 @@ fn pushed(found: Vec<Declaration>, written: Written) -> Result<Vec<Declaration>,
 /// The block with these declarations behind its own.
 fn with_declarations(found: Block, written: Written) -> Result<Block, AllocError>
     requires { AllHold written.pairs.items }
-    ensures { IfOk result (λ block. body_of block ≡ with_declarations (declarations_in written) (body_of found)) }
+    ensures { IfOk result (λ block. body_of block ≡
+        with_declarations (declarations_in written) (body_of found)) }
 {
     match pushed(found.declarations, written) {
         Ok(declarations) => Ok(Block {
@@ -79,7 +80,9 @@ fn item(
     variables: &Variables,
     found: Block,
 ) -> Result<(Block, usize), Stop>
-    ensures gives { GivesAs body_of text.now tokens.now result (item_at inline (defined_in text.now variables.now) (body_of found) (lexemes_from text.now tokens.now at)) }
+    ensures gives { GivesAs body_of text.now tokens.now result
+        (item_at inline (defined_in text.now variables.now) (body_of found)
+        (lexemes_from text.now tokens.now at)) }
     ensures behind { IfOk result (λ found. (at < found.1) × (at < length tokens.now)) }
 {
     let Some(first) = token_at(tokens, at) else {
@@ -107,7 +110,9 @@ pub fn body(
     inline: bool,
     variables: &Variables,
 ) -> Result<(Block, usize), Stop>
-    ensures gives { GivesAs body_of text.now tokens.now result (body_at inline (defined_in text.now variables.now) (lexemes_from text.now tokens.now at)) }
+    ensures gives { GivesAs body_of text.now tokens.now result
+        (body_at inline (defined_in text.now variables.now)
+        (lexemes_from text.now tokens.now at)) }
     ensures behind { IfOk result (λ found. at ≤ found.1) }
 {
     let mut found = nothing(alloc);

@@ -44,7 +44,8 @@ fn is_important(text: &[u8], token: Token) -> bool
 
 /// The word behind the mark `!`, and the spaces and comments behind it.
 fn important_word(text: &[u8], tokens: &[Token], at: usize) -> Result<(bool, usize), Stop>
-    ensures gives { GivesSame text.now tokens.now result (important_word_at (lexemes_from text.now tokens.now at)) }
+    ensures gives { GivesSame text.now tokens.now result
+        (important_word_at (lexemes_from text.now tokens.now at)) }
     ensures behind { IfOk result (λ found. at ≤ found.1) }
 {
     let word = past_blanks(tokens, at);
@@ -61,7 +62,8 @@ fn important_word(text: &[u8], tokens: &[Token], at: usize) -> Result<(bool, usi
 /// Whether `!` and `important` come, with the spaces and comments behind them.
 #[tactic(auto, unfolding(crate::specs::Reads::importance_at))]
 fn importance(text: &[u8], tokens: &[Token], at: usize) -> Result<(bool, usize), Stop>
-    ensures gives { GivesSame text.now tokens.now result (importance_at (lexemes_from text.now tokens.now at)) }
+    ensures gives { GivesSame text.now tokens.now result
+        (importance_at (lexemes_from text.now tokens.now at)) }
     ensures behind { IfOk result (λ found. at ≤ found.1) }
 {
     let Some(first) = token_at(tokens, at) else {
@@ -84,7 +86,9 @@ fn before_end(
     variables: &Variables,
     name: Token,
 ) -> Result<(Spelling, usize), Stop>
-    ensures gives { GivesAs (spelled_in text.now) text.now tokens.now result (spelled_at (defined_in text.now variables.now) (lexeme text.now name) (lexemes_from text.now tokens.now at)) }
+    ensures gives { GivesAs (spelled_in text.now) text.now tokens.now result
+        (spelled_at (defined_in text.now variables.now) (lexeme text.now name)
+        (lexemes_from text.now tokens.now at)) }
     ensures behind { IfOk result (λ found. at < found.1) }
 {
     let colon = match mark(text, tokens, at, b':') {
@@ -124,13 +128,7 @@ pub fn body_end(tokens: &[Token], at: usize, inline: bool) -> Option<usize>
                 None
             }
         }
-        None => {
-            if inline {
-                Some(at)
-            } else {
-                None
-            }
-        }
+        None => { if inline { Some(at) } else { None } }
     }
 }
 
@@ -166,7 +164,8 @@ fn ended(
     inline: bool,
     spelling: Spelling,
 ) -> Result<(Written, usize), Stop>
-    ensures gives { GivesAs declarations_in text.now tokens.now result (ended inline (spelled_in text.now spelling) (lexemes_from text.now tokens.now at)) }
+    ensures gives { GivesAs declarations_in text.now tokens.now result
+        (ended inline (spelled_in text.now spelling) (lexemes_from text.now tokens.now at)) }
     ensures held { IfOk result (λ found. AllHold found.0.pairs.items) }
     ensures behind { IfOk result (λ found. found.1 ≡ at) }
 {
@@ -197,7 +196,9 @@ pub fn declaration(
     inline: bool,
     variables: &Variables,
 ) -> Result<(Written, usize), Stop>
-    ensures gives { GivesAs declarations_in text.now tokens.now result (declaration_at inline (defined_in text.now variables.now) (lexemes_from text.now tokens.now at)) }
+    ensures gives { GivesAs declarations_in text.now tokens.now result
+        (declaration_at inline (defined_in text.now variables.now)
+        (lexemes_from text.now tokens.now at)) }
     ensures held { IfOk result (λ found. AllHold found.0.pairs.items) }
     ensures behind { IfOk result (λ found. at < found.1) }
 {

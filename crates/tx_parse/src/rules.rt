@@ -35,7 +35,8 @@ fn spaced_selector(
     tokens: &[Token],
     at: usize,
 ) -> Result<(Selector, usize), Stop>
-    ensures { GivesSame text.now tokens.now result (spaced_selector_at (lexemes_from text.now tokens.now at)) }
+    ensures { GivesSame text.now tokens.now result
+        (spaced_selector_at (lexemes_from text.now tokens.now at)) }
 {
     match selector_at(alloc, text, tokens, past_blanks(tokens, at)) {
         Ok(found) => Ok(found),
@@ -47,7 +48,8 @@ fn spaced_selector(
 /// Whether further selectors come, behind a comma, or none, behind a `{`.
 #[tactic(auto, unfolding(crate::specs::Reads::goes_on_at))]
 fn goes_on(text: &[u8], tokens: &[Token], at: usize) -> Result<(bool, usize), Stop>
-    ensures { GivesSame text.now tokens.now result (goes_on_at (lexemes_from text.now tokens.now at)) }
+    ensures { GivesSame text.now tokens.now result
+        (goes_on_at (lexemes_from text.now tokens.now at)) }
 {
     let Some(first) = token_at(tokens, at) else {
         return Err(expected(at));
@@ -69,7 +71,8 @@ fn selectors(
     tokens: &[Token],
     at: usize,
 ) -> Result<(Vec<Selector>, usize), Stop>
-    ensures { GivesAs selectors_in text.now tokens.now result (selectors_at (lexemes_from text.now tokens.now at)) }
+    ensures { GivesAs selectors_in text.now tokens.now result
+        (selectors_at (lexemes_from text.now tokens.now at)) }
 {
     let mut found = Vec::new(alloc);
     let mut behind = at;
@@ -114,7 +117,8 @@ pub fn rule(
     at: usize,
     variables: &Variables,
 ) -> Result<((Rule, u32), usize), Stop>
-    ensures { GivesSame text.now tokens.now result (rule_at (defined_in text.now variables.now) (lexemes_from text.now tokens.now at)) }
+    ensures { GivesSame text.now tokens.now result
+        (rule_at (defined_in text.now variables.now) (lexemes_from text.now tokens.now at)) }
 {
     let head = match selectors(alloc, text, tokens, at) {
         Ok(head) => head,

@@ -216,7 +216,8 @@ impl Model for Sheet {
 
 impl Sheet {
     pub(crate) fn of(rules: Rules, variables: u32, declarations: u32, defaults: Rules) -> Sheet
-        ensures { result ≡ record { rules = rules; variables = variables; declarations = declarations; defaults = defaults } }
+        ensures { result ≡
+            record { rules = rules; variables = variables; declarations = declarations; defaults = defaults } }
     {
         Sheet {
             rules,
@@ -258,13 +259,15 @@ impl Sheet {
     pub fn uses(&self, name: &Name) -> bool
         ensures { result ≡ in_sheet (is_class name.now) self.now }
     {
-        in_rules(Sought::OfClass, name, &self.rules) || in_rules(Sought::OfClass, name, &self.defaults)
+        in_rules(Sought::OfClass, name, &self.rules)
+            || in_rules(Sought::OfClass, name, &self.defaults)
     }
 
     /// Whether a selector of this sheet or of the default sheet has the pseudo-class of this name.
     pub fn uses_pseudo(&self, name: &Name) -> bool
         ensures { result ≡ in_sheet (is_pseudo name.now) self.now }
     {
-        in_rules(Sought::OfPseudo, name, &self.rules) || in_rules(Sought::OfPseudo, name, &self.defaults)
+        in_rules(Sought::OfPseudo, name, &self.rules)
+            || in_rules(Sought::OfPseudo, name, &self.defaults)
     }
 }

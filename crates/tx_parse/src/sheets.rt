@@ -54,7 +54,9 @@ fn definition(
     at: usize,
     variables: &Variables,
 ) -> Result<(Vec<Token>, usize), Stop>
-    ensures { GivesAs (gathered_in text.now) text.now tokens.now result (definition_at (defined_in text.now variables.now) (lexemes_from text.now tokens.now at)) }
+    ensures { GivesAs (gathered_in text.now) text.now tokens.now result
+        (definition_at (defined_in text.now variables.now)
+        (lexemes_from text.now tokens.now at)) }
 {
     let colon = match mark(text, tokens, at, b':') {
         Ok(colon) => colon,
@@ -78,7 +80,8 @@ fn with_variable(
     name: Name,
     stand: Vec<Token>,
 ) -> Result<Gathered, AllocError>
-    ensures { IfOk result (λ all. found_in text.now all ≡ with_variable name (gathered_in text.now stand) (found_in text.now found)) }
+    ensures { IfOk result (λ all. found_in text.now all ≡
+        with_variable name (gathered_in text.now stand) (found_in text.now found)) }
 {
     let Gathered {
         variables,
@@ -108,7 +111,8 @@ fn variable(
     found: Gathered,
 ) -> Result<(Gathered, usize), Stop>
     requires { IsNth tokens.now at (Some token) }
-    ensures { GivesAs (found_in text.now) text.now tokens.now result (variable_in_sheet (found_in text.now found) (lexemes_from text.now tokens.now at)) }
+    ensures { GivesAs (found_in text.now) text.now tokens.now result
+        (variable_in_sheet (found_in text.now found) (lexemes_from text.now tokens.now at)) }
 {
     let Some(name) = variable_name(text, token) else {
         return Err(expected(at));
@@ -124,12 +128,9 @@ fn variable(
 }
 
 /// What was found, with this rule, in which so many declarations were written.
-fn with_rule(
-    text: &[u8],
-    found: Gathered,
-    rule: (Rule, u32),
-) -> Result<Gathered, AllocError>
-    ensures { IfOk result (λ all. found_in text.now all ≡ with_rule rule.0 rule.1 (found_in text.now found)) }
+fn with_rule(text: &[u8], found: Gathered, rule: (Rule, u32)) -> Result<Gathered, AllocError>
+    ensures { IfOk result (λ all. found_in text.now all ≡
+        with_rule rule.0 rule.1 (found_in text.now found)) }
 {
     let Gathered {
         variables,
@@ -158,7 +159,8 @@ fn rule_in_sheet(
     at: usize,
     found: Gathered,
 ) -> Result<(Gathered, usize), Stop>
-    ensures { GivesAs (found_in text.now) text.now tokens.now result (rule_in_sheet (found_in text.now found) (lexemes_from text.now tokens.now at)) }
+    ensures { GivesAs (found_in text.now) text.now tokens.now result
+        (rule_in_sheet (found_in text.now found) (lexemes_from text.now tokens.now at)) }
 {
     if found.rules.len() >= MOST_RULES {
         return Err(met(SheetKind::TooManyRules, at));
@@ -184,7 +186,8 @@ fn part(
     found: Gathered,
 ) -> Result<(Gathered, usize), Stop>
     requires { IsNth tokens.now at (Some first) }
-    ensures { GivesAs (found_in text.now) text.now tokens.now result (part_at (found_in text.now found) (lexemes_from text.now tokens.now at)) }
+    ensures { GivesAs (found_in text.now) text.now tokens.now result
+        (part_at (found_in text.now found) (lexemes_from text.now tokens.now at)) }
 {
     if first.kind.is_variable() {
         return variable(alloc, text, tokens, at, first, found);
@@ -197,7 +200,8 @@ fn part(
 
 /// The variables and rules of a whole sheet.
 pub fn sheet(alloc: Global, text: &[u8], tokens: &[Token]) -> Result<(Gathered, usize), Stop>
-    ensures { GivesAs (found_in text.now) text.now tokens.now result (sheet_at (lexemes_from text.now tokens.now 0)) }
+    ensures { GivesAs (found_in text.now) text.now tokens.now result
+        (sheet_at (lexemes_from text.now tokens.now 0)) }
 {
     let mut found = nothing_found(alloc, text);
     let mut behind = past_blanks(tokens, 0);

@@ -22,9 +22,12 @@ fn told(alloc: Global, fault: SheetFault) -> Result<String, Fail> {
 fn answer(alloc: Global, text: &[u8]) -> Result<String, Fail> {
     let short = text.split_at(text.len().min(1_000_000)).0;
     match read_sheet(alloc, short) {
-        Ok(sheet) => Ok(
-            format!(in alloc; "rules {}, declarations {}, variables {}", sheet.rules().as_slice().len(), sheet.declarations(), sheet.variables())?,
-        ),
+        Ok(sheet) => Ok(format!(in alloc;
+            "rules {}, declarations {}, variables {}",
+            sheet.rules().as_slice().len(),
+            sheet.declarations(),
+            sheet.variables()
+        )?),
         Err(fault) => told(alloc, fault),
     }
 }
@@ -256,7 +259,11 @@ fn reads_bytes(alloc: Global, text: &[u8], wanted: &'static str) -> Result<(), F
 fn bytes_are_read_up_to_the_first_fault(rt: HostRuntime) -> Result<(), Fail> {
     let alloc = rt.alloc();
     reads_bytes(alloc, b"", "rules 0, declarations 0, variables 0")?;
-    reads_bytes(alloc, b" /* a */ \n", "rules 0, declarations 0, variables 0")?;
+    reads_bytes(
+        alloc,
+        b" /* a */ \n",
+        "rules 0, declarations 0, variables 0",
+    )?;
     expect(inline_answer(alloc, "")?.as_str() == "0", "an empty text")?;
     reads_bytes(alloc, b"A { } \xff", "1:7: BadByte")?;
     reads_bytes(alloc, b"/* \xff */", "1:4: BadByte")?;
@@ -343,30 +350,9 @@ fn a_sheet_has_at_most_ten_thousand_rules(rt: HostRuntime) -> Result<(), Fail> {
         " $a: 1;",
         "rules 10000, declarations 0, variables 1",
     )?;
-    reads_repeated(
-        alloc,
-        "",
-        "A{}\n",
-        10_000,
-        " .1",
-        "10001:2: Expected",
-    )?;
-    reads_repeated(
-        alloc,
-        "",
-        "A{}\n",
-        10_000,
-        " ..",
-        "10001:2: TooManyRules",
-    )?;
-    reads_repeated(
-        alloc,
-        "",
-        "A{}\n",
-        10_001,
-        "",
-        "10001:1: TooManyRules",
-    )
+    reads_repeated(alloc, "", "A{}\n", 10_000, " .1", "10001:2: Expected")?;
+    reads_repeated(alloc, "", "A{}\n", 10_000, " ..", "10001:2: TooManyRules")?;
+    reads_repeated(alloc, "", "A{}\n", 10_001, "", "10001:1: TooManyRules")
 }
 
 /// How much red a value has, where it is a fixed colour.

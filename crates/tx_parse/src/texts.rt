@@ -110,7 +110,8 @@ fn refusal(
     at: usize,
 ) -> SheetFault
     requires { length bytes.now < 2 ^ 32 }
-    ensures { result ≡ told bytes.now (reported bytes.now fault (wrong, lexemes_from bytes.now tokens.now at)) }
+    ensures { result ≡
+        told bytes.now (reported bytes.now fault (wrong, lexemes_from bytes.now tokens.now at)) }
 {
     let Some(token) = token_at(tokens, at) else {
         return at_end(bytes, fault, wrong);
@@ -201,7 +202,8 @@ fn sheet_with_defaults(alloc: Global, bytes: &[u8]) -> Result<Sheet, SheetFault>
 pub fn read_sheet(alloc: Global, bytes: &[u8]) -> Result<Sheet, SheetFault>
     requires { length bytes.now < 2 ^ 32 }
     // What is read is in the grammar.
-    ensures found { IfOk result (λ sheet. (found : Found) × (sheet ≡ sheet_value found) × IsSheetText bytes.now found) }
+    ensures found { IfOk result (λ sheet. (found : Found) × (sheet ≡
+        sheet_value found) × IsSheetText bytes.now found) }
     // What is in the grammar is read, unless memory is wanting.
     ensures only { (found : Found) → IsSheetText bytes.now found → IsReadAs found result }
     // The answer is what the definition reads, with the place of the first fault.
@@ -225,7 +227,8 @@ fn inline_declarations(alloc: Global, bytes: &[u8]) -> Result<Vec<Declaration>, 
 /// last one needs no `;`. The text has fewer than 2^32 bytes. `Text` is the first fault.
 pub fn read_inline(alloc: Global, text: &str) -> Result<Vec<Declaration>, SheetFault>
     requires { length text.now < 2 ^ 32 }
-    ensures found { IfOk result (λ declarations. (body : Body) × (declarations.items ≡ body.declarations) × IsInlineText text.now body) }
+    ensures found { IfOk result (λ declarations. (body : Body) × (declarations.items ≡
+        body.declarations) × IsInlineText text.now body) }
     ensures only { (body : Body) → IsInlineText text.now body → IsInlineReadAs body result }
     ensures exact { GivesInline text.now result }
 {

@@ -18,7 +18,8 @@ pub fn is_value(kind: TokenKind) -> bool
 
 /// The number of the token behind spaces and comments.
 pub fn past_blanks(tokens: &[Token], at: usize) -> usize
-    ensures gives { (text : List ℕ) → lexemes_from text tokens.now result ≡ past_blanks (lexemes_from text tokens.now at) }
+    ensures gives { (text : List ℕ) → lexemes_from text tokens.now result ≡
+        past_blanks (lexemes_from text tokens.now at) }
     ensures behind { at ≤ result }
 {
     let mut behind = at;
@@ -57,7 +58,8 @@ pub fn alone(tokens: &[Token], at: usize) -> &[Token]
 /// This mark, with spaces and comments before it.
 #[tactic(auto, unfolding(crate::specs::Reads::mark_at))]
 pub fn mark(text: &[u8], tokens: &[Token], at: usize, byte: u8) -> Result<(Token, usize), Stop>
-    ensures gives { GivesAs (lexeme text.now) text.now tokens.now result (mark_at byte (lexemes_from text.now tokens.now at)) }
+    ensures gives { GivesAs (lexeme text.now) text.now tokens.now result
+        (mark_at byte (lexemes_from text.now tokens.now at)) }
     ensures behind { IfOk result (λ found. at < found.1) }
 {
     let first = past_blanks(tokens, at);

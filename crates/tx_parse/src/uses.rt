@@ -37,7 +37,8 @@ fn is_sought(sought: Sought, name: &Name, part: &Part) -> bool
 fn in_compound(sought: Sought, name: &Name, compound: &Compound) -> bool
     ensures { result ≡ in_compound (is_sought sought name.now) compound.now }
 {
-    compound.parts
+    compound
+        .parts
         .as_slice()
         .iter()
         .any(|part| is_sought(sought, name, part))
@@ -47,7 +48,8 @@ fn in_compound(sought: Sought, name: &Name, compound: &Compound) -> bool
 fn in_selector(sought: Sought, name: &Name, selector: &Selector) -> bool
     ensures { result ≡ in_selector (is_sought sought name.now) selector.now }
 {
-    selector.compounds
+    selector
+        .compounds
         .as_slice()
         .iter()
         .any(|compound| in_compound(sought, name, compound))

@@ -25,7 +25,9 @@ fn with_value(
     found: Vec<Token>,
 ) -> Result<(Vec<Token>, usize), Stop>
     requires { IsNth tokens.now at (Some token) }
-    ensures gives { GivesAs (gathered_in text.now) text.now tokens.now result (added (lexemes text.now found.items) (lexeme text.now token) (lexemes_from text.now tokens.now (at + 1)) (stands_for (defined_in text.now variables.now) (lexeme text.now token))) }
+    ensures gives { GivesAs (gathered_in text.now) text.now tokens.now result
+        (added (lexemes text.now found.items) (lexeme text.now token)
+        (lexemes_from text.now tokens.now (at + 1)) (stands_for (defined_in text.now variables.now) (lexeme text.now token))) }
     ensures behind { IfOk result (λ found. at < found.1) }
 {
     let Some(more) = stand(text, tokens, at, token, variables) else {
@@ -49,7 +51,9 @@ fn values_as_far(
     at: usize,
     variables: &Variables,
 ) -> Result<(Vec<Token>, usize), Stop>
-    ensures gives { GivesAs (gathered_in text.now) text.now tokens.now result (values_from (defined_in text.now variables.now) [] (lexemes_from text.now tokens.now at)) }
+    ensures gives { GivesAs (gathered_in text.now) text.now tokens.now result
+        (values_from (defined_in text.now variables.now) []
+        (lexemes_from text.now tokens.now at)) }
     ensures behind { IfOk result (λ found. at ≤ found.1) }
 {
     let mut found = Vec::new(alloc);
@@ -78,7 +82,8 @@ pub fn values(
     at: usize,
     variables: &Variables,
 ) -> Result<(Vec<Token>, usize), Stop>
-    ensures gives { GivesAs (gathered_in text.now) text.now tokens.now result (values_at (defined_in text.now variables.now) (lexemes_from text.now tokens.now at)) }
+    ensures gives { GivesAs (gathered_in text.now) text.now tokens.now result
+        (values_at (defined_in text.now variables.now) (lexemes_from text.now tokens.now at)) }
     ensures behind { IfOk result (λ found. at ≤ found.1) }
 {
     match values_as_far(alloc, text, tokens, at, variables) {

@@ -63,7 +63,8 @@ impl Variables {
 
 /// The name of a variable, where it has at most 64 bytes.
 pub fn variable_name(text: &[u8], token: Token) -> Option<Name>
-    ensures { SomeIff result (IsName (drop 1 (token_bytes text.now token))) (drop 1 (token_bytes text.now token)) }
+    ensures { SomeIff result
+        (IsName (drop 1 (token_bytes text.now token))) (drop 1 (token_bytes text.now token)) }
 {
     name_of(behind(token_bytes(text, token), 1))
 }
@@ -78,7 +79,8 @@ pub fn stand<'a>(
     variables: &'a Variables,
 ) -> Option<&'a [Token]>
     requires { IsNth tokens.now at (Some token) }
-    ensures { option_map (lexemes text.now) (option_copied result) ≡ stands_for (defined_in text.now variables.now) (lexeme text.now token) }
+    ensures { option_map (lexemes text.now) (option_copied result) ≡
+        stands_for (defined_in text.now variables.now) (lexeme text.now token) }
 {
     if !token.kind.is_variable() {
         return Some(alone(tokens, at));

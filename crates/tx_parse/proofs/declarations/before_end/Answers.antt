@@ -1,5 +1,4 @@
-use Rattle.std.proofs.Common.{ap, sym, ◌∙◌, ◌+◌, []}
-use Rattle.tx_lex.specs.Lexemes.{lexeme, lexemes, lexemes_from}
+use Rattle.tx_lex.specs.Lexemes.{lexeme, lexemes_from}
 use Rattle.tx_parse.specs.Seen.{defined_in}
 use Rattle.tx_parse.proofs.Turns.{spelled_ok, spelled_bad_values, spelled_bad_importance}
 use Rattle.tx_parse.proofs.declarations.before_end.Goals as goal

@@ -1,4 +1,4 @@
-use Rattle.std.proofs.Common.{◌≡◌, ◌+◌, ◌-◌, ◌≤◌, ◌<◌, ℕ, suc, Bool, true, false, not, refl, Ok, Err, ap, sym, ◌∙◌, subst, arith}
+use Rattle.std.proofs.Common.{◌≡◌, ◌+◌, ◌-◌, ◌≤◌, ◌<◌, ℕ, suc, Bool, true, false, not, refl, Err, ap, sym, ◌∙◌, subst, arith}
 use Rattle.tx_lex.specs.Lexemes.{lexemes_from}
 use Rattle.tx_parse.specs.Answers.{GivesAs}
 use Rattle.tx_parse.specs.Reads.{selectors_at, expected}

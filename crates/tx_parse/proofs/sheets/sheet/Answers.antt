@@ -1,7 +1,7 @@
-use Rattle.std.proofs.Common.{ap, ◌+◌, ◌-◌, length}
+use Rattle.std.proofs.Common.{ap, ◌+◌}
 use Rattle.tx_lex.specs.Lexemes.{lexeme, lexemes, lexemes_from}
 use Rattle.tx_parse.specs.Seen.{found_in}
-use Rattle.tx_parse.proofs.SheetSteps.{sheet_init, sheet_next, sheet_ends, sheet_err, fewer_left}
+use Rattle.tx_parse.proofs.SheetSteps.{sheet_init, sheet_next, fewer_left}
 use Rattle.tx_parse.proofs.sheets.sheet.Goals as goal
 
 pub loop-first-init : goal.loop-first-init

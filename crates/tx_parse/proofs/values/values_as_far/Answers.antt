@@ -1,4 +1,4 @@
-use Rattle.std.proofs.Common.{ℕ, ◌≤◌, ◌<◌, ap, sym, ◌∙◌, ◌+◌, [], arith}
+use Rattle.std.proofs.Common.{ℕ, ◌≤◌, ◌<◌, ap, sym, ◌∙◌, ◌+◌, arith}
 use Rattle.tx_lex.specs.Lexemes.{lexeme, lexemes, lexemes_from}
 use Rattle.tx_parse.specs.Seen.{defined_in}
 use Rattle.tx_parse.proofs.ValueSteps.{values_init, values_next, values_last, values_end, values_err}
@@ -11,10 +11,12 @@ pub loop-token-init : goal.loop-token-init
 loop-token-init c = (values_init _ _ _ _ (ap (lexemes c.args.text.now) c.new-found.ensures.items) (c.past_blanks-behind.ensures.gives c.args.text.now), c.past_blanks-behind.ensures.behind)
 
 pub loop-token-preserved : goal.loop-token-preserved
-loop-token-preserved c = (values_next (defined_in c.args.text.now c.args.variables.now) (lexemes c.args.text.now c.loop-token.found.items) _ _ (lexeme c.args.text.now c.in-Some.token) (lexemes_from c.args.text.now c.args.tokens.now (c.loop-token.behind + 1)) _ _ _
-    c.loop-token.invariant.0 (ap (lexemes c.args.text.now) c.in-Some.ensures.0) (sym c.is_value.ensures ∙ c.if-not-is_value.false) c.in-Ok.ensures.gives
-    (c.past_blanks-behind-in-Ok.ensures.gives c.args.text.now),
-    farther c.loop-token.invariant.1 c.in-Ok.ensures.behind c.past_blanks-behind-in-Ok.ensures.behind)
+loop-token-preserved c = (
+  values_next (defined_in c.args.text.now c.args.variables.now) (lexemes c.args.text.now c.loop-token.found.items) _ _ (lexeme c.args.text.now c.in-Some.token) (lexemes_from c.args.text.now c.args.tokens.now (c.loop-token.behind + 1)) _ _ _
+      c.loop-token.invariant.0 (ap (lexemes c.args.text.now) c.in-Some.ensures.0) (sym c.is_value.ensures ∙ c.if-not-is_value.false) c.in-Ok.ensures.gives
+      (c.past_blanks-behind-in-Ok.ensures.gives c.args.text.now),
+  farther c.loop-token.invariant.1 c.in-Ok.ensures.behind c.past_blanks-behind-in-Ok.ensures.behind,
+)
 
 pub returns-then-not-is_value-clause-gives : goal.returns-then-not-is_value-clause-gives
 returns-then-not-is_value-clause-gives c = values_last _ _ _ _ _ _ c.loop-token.invariant.0 (ap (lexemes c.args.text.now) c.in-Some.ensures.0) (sym c.is_value.ensures ∙ c.if-not-is_value.true)
