@@ -18,7 +18,7 @@ abbrev pub NoneBeginsSo : (List Lexeme → Type 0) → List Lexeme → List Lexe
 NoneBeginsSo IsIn ts [] = IsIn ts → ⊥
 NoneBeginsSo IsIn ts (t ∷ more) = (front : List Lexeme) × (ts ≡ front ++ (t ∷ more)) × ((other : List Lexeme) → IsIn (front ++ (t ∷ other)) → ⊥)
 
--- a fault is met at the first token with which nothing in the grammar begins
+-- a fault is met at a token with which nothing in the grammar begins
 abbrev pub FaultsAreFirst : Type 0
 FaultsAreFirst = (ts rest : List Lexeme) (wrong : Wrong)
     → (sheet_at ts ≡ Err (wrong, rest) → NoneBeginsSo (λ other. (found : Found) × IsSheet other found) ts rest)

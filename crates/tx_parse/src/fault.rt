@@ -23,7 +23,7 @@ pub enum SheetKind {
     /// compound of a selector, the 65th selector of a rule, and a name that has more than 64 bytes.
     #[error("something else was expected")]
     Expected,
-    /// No line above defines the variable.
+    /// Nothing above defines the variable, or its name has more than 64 bytes.
     #[error("the variable isn't defined")]
     UndefinedVariable,
     /// With this token there are more than 64 values.

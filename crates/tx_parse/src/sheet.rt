@@ -1,6 +1,7 @@
 //! Sheets as values.
 ghost use Rattle.std.specs.Prelude.{◌≡◌};
 ghost use Rattle.tx_value.specs.Holds.{HoldsOf};
+ghost use Rattle.tx_parse.specs.Default.{default_rules};
 ghost use Rattle.tx_parse.specs.Uses.{is_class, is_pseudo, in_sheet};
 
 use crate::uses::{Sought, in_rules};
@@ -207,15 +208,20 @@ pub struct Sheet {
 }
 
 impl Model for Sheet {
+    ghost use Rattle.std.specs.Prelude.{◌≡◌};
+    ghost use Rattle.tx_parse.specs.Default.{default_rules};
     ghost use Rattle.tx_parse.specs.Values.{SheetValue};
 
     ghost Value = { SheetValue };
 
     ghost view = { λ s. record { rules = s.rules; variables = s.variables; declarations = s.declarations; defaults = s.defaults } };
+
+    ghost invariant = { λ s. s.defaults ≡ default_rules };
 }
 
 impl Sheet {
     pub(crate) fn of(rules: Rules, variables: u32, declarations: u32, defaults: Rules) -> Sheet
+        requires { defaults ≡ default_rules }
         ensures { result ≡
             record { rules = rules; variables = variables; declarations = declarations; defaults = defaults } }
     {
@@ -250,7 +256,8 @@ impl Sheet {
 
     /// The rules of the default sheet.
     pub fn defaults(&self) -> &Rules
-        ensures { result.now ≡ self.now.defaults }
+        ensures rules { result.now ≡ self.now.defaults }
+        ensures known { self.now.defaults ≡ default_rules }
     {
         &self.defaults
     }
