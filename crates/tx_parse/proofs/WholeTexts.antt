@@ -34,13 +34,13 @@ not_refused bytes NoMemory a read is refuses = refl
 
 -- ---- sheets
 
-sheet_text : (bytes : List ℕ) (found : Found) → sheet_of bytes ≡ Ok found → IsSheetText bytes found
+pub sheet_text : (bytes : List ℕ) (found : Found) → sheet_of bytes ≡ Ok found → IsSheetText bytes found
 unfolding sheet_of
 sheet_text bytes found is =
     let good : ((lexed bytes).fault ≡ None) × (rest : List Lexeme) × (sheet_at (tokens_of bytes) ≡ Ok (found, rest)) = judged_good bytes (lexed bytes).fault (sheet_at (tokens_of bytes)) found is in
     record { sound = good.0; grammar = (sheet_found (tokens_of bytes) good.1 found good.2).0 }
 
-text_sheet : (bytes : List ℕ) (found : Found) → IsSheetText bytes found → sheet_of bytes ≡ Ok found
+pub text_sheet : (bytes : List ℕ) (found : Found) → IsSheetText bytes found → sheet_of bytes ≡ Ok found
 unfolding sheet_of
 text_sheet bytes found is = good_judged bytes (lexed bytes).fault (sheet_at (tokens_of bytes)) found is.sound (sheet_again (tokens_of bytes) found is.grammar)
 
@@ -54,13 +54,13 @@ sheet_clause_only bytes (Err fault) gives found is = not_refused bytes fault fou
 
 -- ---- inline texts
 
-inline_text : (bytes : List ℕ) (body : Body) → inline_of bytes ≡ Ok body → IsInlineText bytes body
+pub inline_text : (bytes : List ℕ) (body : Body) → inline_of bytes ≡ Ok body → IsInlineText bytes body
 unfolding inline_of
 inline_text bytes body is =
     let good : ((lexed bytes).fault ≡ None) × (rest : List Lexeme) × (inline_at (tokens_of bytes) ≡ Ok (body, rest)) = judged_good bytes (lexed bytes).fault (inline_at (tokens_of bytes)) body is in
     record { sound = good.0; grammar = (inline_found (tokens_of bytes) good.1 body good.2).0 }
 
-text_inline : (bytes : List ℕ) (body : Body) → IsInlineText bytes body → inline_of bytes ≡ Ok body
+pub text_inline : (bytes : List ℕ) (body : Body) → IsInlineText bytes body → inline_of bytes ≡ Ok body
 unfolding inline_of
 text_inline bytes body is = good_judged bytes (lexed bytes).fault (inline_at (tokens_of bytes)) body is.sound (inline_again (tokens_of bytes) body is.grammar)
 

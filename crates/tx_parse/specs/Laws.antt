@@ -12,6 +12,12 @@ SheetsAreRead = (ts : List Lexeme) (found : Found) → (sheet_at ts ≡ Ok (foun
 abbrev pub InlineTextsAreRead : Type 0
 InlineTextsAreRead = (ts : List Lexeme) (body : Body) → (inline_at ts ≡ Ok (body, []) → IsBody [] ts body) × (IsBody [] ts body → inline_at ts ≡ Ok (body, []))
 
+-- bytes are read exactly where they are a sheet, or an inline text, as what they are
+abbrev pub TextsAreRead : Type 0
+TextsAreRead = (bytes : List ℕ)
+    → ((found : Found) → (sheet_of bytes ≡ Ok found → IsSheetText bytes found) × (IsSheetText bytes found → sheet_of bytes ≡ Ok found))
+    × ((body : Body) → (inline_of bytes ≡ Ok body → IsInlineText bytes body) × (IsInlineText bytes body → inline_of bytes ≡ Ok body))
+
 -- nothing that begins as these tokens do, up to and with the one at which a fault is met, is in the grammar; where they end
 -- too soon, they aren't
 abbrev pub NoneBeginsSo : (List Lexeme → Type 0) → List Lexeme → List Lexeme → Type 0

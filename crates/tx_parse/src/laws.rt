@@ -1,5 +1,5 @@
 //! What holds of the definitions.
-ghost use Rattle.tx_parse.specs.Laws.{SheetsAreRead, InlineTextsAreRead, FaultsAreFirst};
+ghost use Rattle.tx_parse.specs.Laws.{SheetsAreRead, InlineTextsAreRead, TextsAreRead, FaultsAreFirst};
 
 /// A list of tokens is read as a sheet exactly where it is in the grammar.
 pub fn sheets_are_read()
@@ -9,6 +9,11 @@ pub fn sheets_are_read()
 /// A list of tokens is read as an inline text exactly where it is in the grammar.
 pub fn inline_texts_are_read()
     ensures { InlineTextsAreRead }
+{}
+
+/// Bytes are read exactly where they are a sheet, or an inline text, in the grammar.
+pub fn texts_are_read()
+    ensures { TextsAreRead }
 {}
 
 /// Where a fault is met at a token, nothing that begins with the tokens up to and with that one is
