@@ -1,10 +1,9 @@
 -- What the pieces of a line say of it.
-use Rattle.std.proofs.Common.{◌≡◌, ℕ, Bool, true, false, cond, List, [], ◌∷◌, length, Option, None, Some, refl, eqb, arith, ◌<◌, zero, suc, ◌&&◌, ◌∙◌, ap, sym, Result, Ok, Err, ◌++◌, ◌+◌, ◌≤◌, nat_lt, append_assoc, codes, option_map, map}
+use Rattle.std.proofs.Common.{◌≡◌, ℕ, Bool, true, false, cond, List, [], ◌∷◌, Option, None, Some, refl, eqb, arith, ◌&&◌, ◌∙◌, ap, sym, Result, Ok, Err, ◌++◌, ◌+◌, append_assoc, option_map, map}
 use Rattle.tx_read.specs.Pieces.{pieces, onto}
 use Rattle.std.specs.List.{list_all, AllPass, AllByRecursion}
 use Rattle.std.proofs.lemmas.List.Sums.{AllPass-from_list_all}
 use Rattle.tx_cell.specs.Plain.{is_printable}
-use Rattle.std.specs.Str.{IsAscii, bytes_eq}
 use Rattle.std.proofs.lemmas.Bool.Decides.{nat_tests}
 use Rattle.tx_app.specs.declared.sheet_form.Declaration.{Declaration}
 use Rattle.tx_app.specs.declared.sheet_form.Look.{Look}

@@ -1,21 +1,25 @@
 -- The run, from its parts, and what its causes say.
-use Rattle.std.proofs.Common.{◌≡◌, ◌≤◌, ◌+◌, ℕ, zero, suc, Bool, true, false, cond, List, [], ◌∷◌, ◌++◌, length, map, Option, None, Some, refl, ap, sym, ◌∙◌, arith, subst, zero-add, IfSome, Result, Ok, Err}
+use Rattle.std.proofs.Common.{◌≡◌, ◌≤◌, ◌+◌, ℕ, zero, suc, Bool, true, false, cond, List, [], ◌∷◌, ◌++◌, length, map, Option, None, Some, refl, ap, sym, ◌∙◌, arith, subst, zero-add, IfSome, Result, Ok, Err, ◌⊎◌, inl, inr, Global, Vec}
 use Rattle.std.proofs.Math.Dec.{eqb-suc-zero}
 use Rattle.std.specs.Io.KnownBytes.{append_known}
 use Rattle.tx_io.specs.declared.files.LoadFault.TheVariants.{Failed, TooLong as PastLimit, NoMemory as NoRoom}
 use Rattle.tx_io.specs.declared.send.Sent.{Sent}
 use Rattle.tx_io.specs.Faults.{raised, Rose}
-use Rattle.tx_io.specs.Loading.{FilesSeen, failed_loads, after_loads}
+use Rattle.tx_io.specs.Loading.{FilesSeen, load_of, failed_loads, after_loads}
 use Rattle.tx_io.specs.Sending.{SinkSeen, failed_puts}
 use Rattle.tx_io.specs.Store.{Answer, LoadGives}
-use Rattle.tx_app.specs.Words.{Show, asked}
+use Rattle.tx_parse.specs.Grammar.{Found}
+use Rattle.tx_parse.specs.Texts.{Report, sheet_of}
+use Rattle.tx_app.specs.Words.{Show, Task, Shows, Checks, asked}
 use Rattle.tx_app.specs.TreeForm.{Fault, texts_of, unbuilt}
 use Rattle.tx_app.specs.SheetForm.{looks_of}
 use Rattle.tx_app.specs.Scene.{Scene, first_misfit}
-use Rattle.tx_app.specs.Run.{Reading, Opening, Stops, Opens, Refreshing, Unmade, Made, Course, IsCourse, IsShown, IsOfFiles, opening_of, show_opening, sheet_opening, sheet_loads, loads_of, bytes_of, faults_of, entry_of, cause_of, end_cause, sink_cause, unsent, file_limit, loaded, in_form, fitted}
-use Rattle.tx_app.specs.Opening.{GivesScene, OpensWords}
-use Rattle.tx_app.specs.Showing.{Runs, Shows}
-use Rattle.tx_app.specs.Faults.{CausedBy, HoldsScene, IsComplete, IsNoneOrMemory, read_faults, sink_faults}
+use Rattle.tx_app.specs.Run.{Reading, Opening, Stops, Opens, Prints, SecondGives, check_opening, counted, Refreshing, Unmade, Made, Course, IsCourse, IsShown, IsOfFiles, opening_of, show_opening, sheet_opening, sheet_loads, loads_of, bytes_of, faults_of, entry_of, cause_of, end_cause, sink_cause, unsent, file_limit, loaded, in_form, fitted}
+use Rattle.tx_app.specs.Opening.{GivesScene, GivesLine, GivesOpened, OpensWords}
+use Rattle.tx_app.specs.declared.open.Opened.{Opened}
+use Rattle.tx_app.specs.declared.open.Opened.TheVariants.{Picture, Line}
+use Rattle.tx_app.specs.Showing.{Runs, IsPrinting, Shows as IsShowing}
+use Rattle.tx_app.specs.Faults.{CausedBy, HoldsScene, HoldsSheet, IsComplete, IsNoneOrMemory, read_faults, sink_faults}
 use Rattle.tx_app.specs.declared.outcome.Cause.{Cause}
 use Rattle.tx_app.specs.declared.outcome.Cause.TheVariants.{Usage, Refused, ReadFault, SinkFault, NoMemory}
 use Rattle.tx_app.specs.declared.outcome.Entry.{Entry}
@@ -39,23 +43,28 @@ Runs-stop words files_before files_after seen cause o = record {
   cause_is = cause_is (opening_of (asked words) o.reading) o.wanting o.gives;
 }
   where
-    possible : (opening : Opening) (wanting : Bool) → GivesScene wanting opening (Err cause) → IsCourse opening (record { wanting = wanting; refreshes = []; closed = unsent })
+    possible : (opening : Opening) (wanting : Bool) → GivesOpened wanting opening (Err cause) → IsCourse opening (record { wanting = wanting; refreshes = []; closed = unsent })
     possible (Stops expected) wanting gives = (refl, refl, gives.1)
     possible (Opens scene) true gives = (refl, refl)
     possible (Opens scene) false gives = absurd gives
+    possible (Prints line) true gives = (refl, refl)
+    possible (Prints line) false gives = absurd gives
 
     nothing : (opening : Opening) (wanting : Bool) → [] ≡ bytes_of opening (record { wanting = wanting; refreshes = []; closed = unsent })
     nothing (Stops expected) wanting = refl
     nothing (Opens scene) wanting = refl
+    nothing (Prints line) wanting = refl
 
-    cause_is : (opening : Opening) (wanting : Bool) → GivesScene wanting opening (Err cause) → Some cause ≡ cause_of opening (record { wanting = wanting; refreshes = []; closed = unsent })
+    cause_is : (opening : Opening) (wanting : Bool) → GivesOpened wanting opening (Err cause) → Some cause ≡ cause_of opening (record { wanting = wanting; refreshes = []; closed = unsent })
     cause_is (Stops expected) wanting gives = ap Some gives.0
     cause_is (Opens scene) true gives = ap Some gives
     cause_is (Opens scene) false gives = absurd gives
+    cause_is (Prints line) true gives = ap Some gives
+    cause_is (Prints line) false gives = absurd gives
 
 -- the scene was shown
-pub Runs-show : (words : List (List ℕ)) (files_before files_after : FilesSeen) (before after : SinkSeen) (scene : Scene) (fresh journal : List Entry) (cause : Option Cause)
-    → OpensWords files_before files_after words (Ok scene) → fresh ≡ [] → Shows before after scene fresh journal cause → Runs words files_before files_after before after journal cause
+Runs-show : (words : List (List ℕ)) (files_before files_after : FilesSeen) (before after : SinkSeen) (scene : Scene) (fresh journal : List Entry) (cause : Option Cause)
+    → OpensWords files_before files_after words (Ok (Picture scene)) → fresh ≡ [] → IsShowing before after scene fresh journal cause → Runs words files_before files_after before after journal cause
 Runs-show words files_before files_after before after scene fresh journal cause o none s =
     let opens : opening_of (asked words) o.reading ≡ Opens scene = is_scene (opening_of (asked words) o.reading) o.wanting o.gives in
     record {
@@ -74,6 +83,44 @@ Runs-show words files_before files_after before after scene fresh journal cause 
     is_scene (Stops expected) wanting gives = absurd gives
     is_scene (Opens found) false gives = ap Opens (sym gives)
     is_scene (Opens found) true gives = absurd gives
+    is_scene (Prints line) wanting gives = absurd gives
+
+pub Runs-picture : (words : List (List ℕ)) (files_before files_after : FilesSeen) (before after : SinkSeen) (opened : Opened) (scene : Scene) (fresh journal : List Entry) (cause : Option Cause)
+    → OpensWords files_before files_after words (Ok opened) → opened ≡ Picture scene → fresh ≡ [] → IsShowing before after scene fresh journal cause
+    → Runs words files_before files_after before after journal cause
+Runs-picture words files_before files_after before after opened scene fresh journal cause o is none s =
+    Runs-show words files_before files_after before after scene fresh journal cause (subst (λ done. OpensWords files_before files_after words (Ok done)) is o) none s
+
+-- the line was printed
+Runs-line : (words : List (List ℕ)) (files_before files_after : FilesSeen) (before after : SinkSeen) (line : Vec ℕ Global) (cause : Option Cause)
+    → OpensWords files_before files_after words (Ok (Line line)) → IsPrinting before after line.items cause → Runs words files_before files_after before after [] cause
+Runs-line words files_before files_after before after line cause o s =
+    let printed : (opening_of (asked words) o.reading ≡ Prints line.items) × (o.wanting ≡ false) = is_line (opening_of (asked words) o.reading) o.wanting o.gives in
+    let course : Course = record { wanting = false; refreshes = []; closed = s.sent } in
+    record {
+      reading = o.reading;
+      course = course;
+      of_files = o.of_files;
+      possible = subst (λ p. IsCourse p course) (sym printed.0) (refl, s.possible);
+      loads = o.loads;
+      told = s.told ∙ ap (λ p. append_known before.told (bytes_of p course)) (sym printed.0);
+      faults = s.faults;
+      journal_is = refl;
+      cause_is = s.cause_is ∙ ap (λ p. cause_of p course) (sym printed.0);
+    }
+  where
+    is_line : (opening : Opening) (wanting : Bool) → GivesLine wanting opening (Ok line) → (opening ≡ Prints line.items) × (wanting ≡ false)
+    is_line (Stops expected) wanting gives = absurd gives
+    is_line (Opens scene) wanting gives = absurd gives
+    is_line (Prints bytes) false gives = (ap Prints (sym gives), refl)
+    is_line (Prints bytes) true gives = absurd gives
+
+pub Runs-printed : (words : List (List ℕ)) (files_before files_after : FilesSeen) (before after : SinkSeen) (opened : Opened) (line : Vec ℕ Global) (sent : List ℕ) (cause : Option Cause)
+    → OpensWords files_before files_after words (Ok opened) → opened ≡ Line line → sent ≡ line.items → IsPrinting before after sent cause
+    → Runs words files_before files_after before after [] cause
+Runs-printed words files_before files_after before after opened line sent cause o is all s =
+    Runs-line words files_before files_after before after line cause (subst (λ done. OpensWords files_before files_after words (Ok done)) is o)
+    (subst (λ bytes. IsPrinting before after bytes cause) all s)
 
 -- ---- what the causes say
 
@@ -105,18 +152,29 @@ texts-failures show (Some (Err PastLimit)) (Ok texts) = refl
 texts-failures show (Some (Err NoRoom)) (Ok texts) = refl
 
 tree-failures : (show : Show) (tree : Answer) (sheet : Option Answer)
-    → failed_loads (loads_of (Some show) (record { tree = tree; sheet = sheet })) ≡ read_failures (show_opening show (record { tree = tree; sheet = sheet }))
+    → failed_loads (loads_of (Some (Shows show)) (record { first = tree; second = sheet })) ≡ read_failures (show_opening show (record { first = tree; second = sheet }))
 tree-failures show (Ok bytes) sheet = zero-add (failed_loads (sheet_loads show.sheet sheet (texts_of bytes))) ∙ texts-failures show sheet (texts_of bytes)
 tree-failures show (Err Failed) sheet = refl
 tree-failures show (Err PastLimit) sheet = refl
 tree-failures show (Err NoRoom) sheet = refl
 
-loads-failures : (wanted : Option Show) (reading : Reading) → failed_loads (loads_of wanted reading) ≡ read_failures (opening_of wanted reading)
+check-failures : (name : List ℕ) (answer : Answer) → failed_loads (load_of name file_limit answer ∷ []) ≡ read_failures (check_opening name answer)
+check-failures name (Ok bytes) = of (sheet_of bytes)
+  where
+    of : (read : Result Found Report) → 0 ≡ read_failures (counted name bytes read)
+    of (Ok found) = refl
+    of (Err report) = refl
+check-failures name (Err Failed) = refl
+check-failures name (Err PastLimit) = refl
+check-failures name (Err NoRoom) = refl
+
+loads-failures : (wanted : Option Task) (reading : Reading) → failed_loads (loads_of wanted reading) ≡ read_failures (opening_of wanted reading)
 loads-failures None reading = refl
-loads-failures (Some show) reading = tree-failures show reading.tree reading.sheet
+loads-failures (Some (Shows show)) reading = tree-failures show reading.first reading.second
+loads-failures (Some (Checks name)) reading = check-failures name reading.first
 
 -- the count of the files rose by these
-faults-of_loads : (wanted : Option Show) (reading : Reading) (before after : FilesSeen) → after ≡ after_loads before (loads_of wanted reading)
+faults-of_loads : (wanted : Option Task) (reading : Reading) (before after : FilesSeen) → after ≡ after_loads before (loads_of wanted reading)
     → after.faults ≡ raised before.faults (read_failures (opening_of wanted reading))
 faults-of_loads wanted reading before after is = ap (λ (seen : FilesSeen). seen.faults) is ∙ ap (raised before.faults) (loads-failures wanted reading)
 
@@ -136,11 +194,17 @@ in_form-of_reading : {A : Type 0} (name : List ℕ) (found : Result A Fault) (ne
 in_form-of_reading name (Ok value) next rest = rest value
 in_form-of_reading name (Err line) next rest = tt
 
-opening-of_reading : (wanted : Option Show) (reading : Reading) → OfReading (opening_of wanted reading)
+opening-of_reading : (wanted : Option Task) (reading : Reading) → OfReading (opening_of wanted reading)
 opening-of_reading None reading = tt
-opening-of_reading (Some show) reading =
-    loaded-of_reading show.tree reading.tree (λ bytes. in_form show.tree (texts_of bytes) (λ texts. sheet_opening show texts reading.sheet)) (λ bytes.
-    in_form-of_reading show.tree (texts_of bytes) (λ texts. sheet_opening show texts reading.sheet) of_sheet)
+opening-of_reading (Some (Checks name)) reading =
+    loaded-of_reading name reading.first (λ bytes. counted name bytes (sheet_of bytes)) (λ bytes. of_counts bytes (sheet_of bytes))
+  where
+    of_counts : (bytes : List ℕ) (read : Result Found Report) → OfReading (counted name bytes read)
+    of_counts bytes (Ok found) = tt
+    of_counts bytes (Err report) = tt
+opening-of_reading (Some (Shows show)) reading =
+    loaded-of_reading show.tree reading.first (λ bytes. in_form show.tree (texts_of bytes) (λ texts. sheet_opening show texts reading.second)) (λ bytes.
+    in_form-of_reading show.tree (texts_of bytes) (λ texts. sheet_opening show texts reading.second) of_sheet)
   where
     of_fitted : (texts : List (List ℕ)) (looks : Looks) (misfit : Option ℕ) → OfReading (fitted show texts looks misfit)
     of_fitted texts looks (Some i) = tt
@@ -153,8 +217,8 @@ opening-of_reading (Some show) reading =
         (λ bytes. in_form-of_reading show.sheet (unbuilt (looks_of bytes)) (λ looks. fitted show texts looks (first_misfit show.size looks.statics.height 1 texts))
         (λ looks. of_fitted texts looks (first_misfit show.size looks.statics.height 1 texts)))
 
-    of_sheet : (texts : List (List ℕ)) → OfReading (sheet_opening show texts reading.sheet)
-    of_sheet texts = of_answer texts reading.sheet
+    of_sheet : (texts : List (List ℕ)) → OfReading (sheet_opening show texts reading.second)
+    of_sheet texts = of_answer texts reading.second
 
 rises : (n before after : ℕ) → after ≡ raised before (suc n) → Rose before after
 rises n before after is = omega (arith, is)
@@ -188,10 +252,16 @@ shown-read scene false (Unmade ∷ []) closed before after possible = tt
 shown-read scene false (Made sent ∷ []) closed before after possible = sink_cause-no_read (failed_puts sent + failed_puts closed) before after
 shown-read scene false (refreshing ∷ next ∷ rest) closed before after possible = absurd possible
 
+printed-read : (wanting : Bool) (refreshes : List Refreshing) (closed : Sent) (before after : ℕ) → refreshes ≡ []
+    → CausedBy (read_faults (cond wanting (Some NoMemory) (end_cause refreshes closed))) before after
+printed-read true refreshes closed before after none = tt
+printed-read false refreshes closed before after none = rw none (sink_cause-no_read (failed_puts closed) before after)
+
 read_fault-of : (opening : Opening) (course : Course) (before after : ℕ) → OfReading opening → IsCourse opening course → after ≡ raised before (read_failures opening)
     → CausedBy (read_faults (cause_of opening course)) before after
 read_fault-of (Stops cause) course before after of possible is = stopped-read cause course.wanting before after of is
 read_fault-of (Opens scene) course before after of possible is = shown-read scene course.wanting course.refreshes course.closed before after possible
+read_fault-of (Prints line) course before after of possible is = printed-read course.wanting course.refreshes course.closed before after possible.0
 
 stopped-sink : (cause : Cause) (wanting : Bool) (before after : ℕ) → OfReading (Stops cause) → CausedBy (sink_faults (Some (cond wanting NoMemory cause))) before after
 stopped-sink cause true before after of = tt
@@ -210,10 +280,18 @@ shown-sink scene false (Unmade ∷ []) closed before after possible is = tt
 shown-sink scene false (Made sent ∷ []) closed before after possible is = sink_cause-caused (failed_puts sent + failed_puts closed) before after is
 shown-sink scene false (refreshing ∷ next ∷ rest) closed before after possible is = absurd possible
 
+printed-sink : (wanting : Bool) (refreshes : List Refreshing) (closed : Sent) (before after : ℕ) → refreshes ≡ [] → after ≡ raised before (faults_of refreshes closed)
+    → CausedBy (sink_faults (cond wanting (Some NoMemory) (end_cause refreshes closed))) before after
+printed-sink true refreshes closed before after none is = tt
+printed-sink false refreshes closed before after none is =
+    subst (λ (all : List Refreshing). CausedBy (sink_faults (end_cause all closed)) before after) (sym none)
+    (sink_cause-caused (failed_puts closed) before after (is ∙ ap (λ (all : List Refreshing). raised before (faults_of all closed)) none))
+
 sink_fault-of : (opening : Opening) (course : Course) (before after : ℕ) → OfReading opening → IsCourse opening course → after ≡ raised before (faults_of course.refreshes course.closed)
     → CausedBy (sink_faults (cause_of opening course)) before after
 sink_fault-of (Stops cause) course before after of possible is = stopped-sink cause course.wanting before after of
 sink_fault-of (Opens scene) course before after of possible is = shown-sink scene course.wanting course.refreshes course.closed before after possible is
+sink_fault-of (Prints line) course before after of possible is = printed-sink course.wanting course.refreshes course.closed before after possible.0 is
 
 pub Runs-read_fault : (words : List (List ℕ)) (files_before files_after : FilesSeen) (before after : SinkSeen) (journal : List Entry) (cause : Option Cause)
     → Runs words files_before files_after before after journal cause → CausedBy (read_faults cause) files_before.faults files_after.faults
@@ -231,6 +309,7 @@ Runs-sink_fault words files_before files_after before after journal cause r =
 -- a reading of such files: a scene, a failed load, or want of memory
 abbrev Fine : Opening → Type 0
 Fine (Opens scene) = Unit {0}
+Fine (Prints line) = Unit {0}
 Fine (Stops (ReadFault rose)) = rose ≡ 1
 Fine (Stops NoMemory) = Unit {0}
 Fine (Stops _) = ⊥
@@ -253,10 +332,11 @@ texts-fine show scene (Err line) sheet answer gives short opens = absurd (subst 
     Stopped : Opening → Type 0
     Stopped (Stops cause) = Unit {0}
     Stopped (Opens found) = ⊥
+    Stopped (Prints line) = ⊥
 
 tree-fine : (show : Show) (scene : Scene) (tree sheet : List ℕ) (of_tree of_sheet : Answer)
     → LoadGives (Some tree) file_limit of_tree → length tree ≤ file_limit → LoadGives (Some sheet) file_limit of_sheet → length sheet ≤ file_limit
-    → show_opening show (record { tree = Ok tree; sheet = Some (Ok sheet) }) ≡ Opens scene → Fine (show_opening show (record { tree = of_tree; sheet = Some of_sheet }))
+    → show_opening show (record { first = Ok tree; second = Some (Ok sheet) }) ≡ Opens scene → Fine (show_opening show (record { first = of_tree; second = Some of_sheet }))
 tree-fine show scene tree sheet (Ok bytes) of_sheet gives short sheet_gives sheet_short opens =
     texts-fine show scene (texts_of bytes) sheet of_sheet sheet_gives sheet_short (ap (λ b. in_form show.tree (texts_of b) (λ texts. sheet_opening show texts (Some (Ok sheet)))) gives.0 ∙ opens)
 tree-fine show scene tree sheet (Err Failed) of_sheet gives short sheet_gives sheet_short opens = refl
@@ -285,21 +365,31 @@ shown-free scene false (Unmade ∷ []) closed before after possible is none = tt
 shown-free scene false (Made sent ∷ []) closed before after possible is none = sink_cause-free (failed_puts sent + failed_puts closed) before after is none
 shown-free scene false (refreshing ∷ next ∷ rest) closed before after possible is none = absurd possible
 
+printed-free : (wanting : Bool) (refreshes : List Refreshing) (closed : Sent) (before after : ℕ) → refreshes ≡ [] → after ≡ raised before (faults_of refreshes closed)
+    → (Rose before after → ⊥) → IsNoneOrMemory (cond wanting (Some NoMemory) (end_cause refreshes closed))
+printed-free true refreshes closed before after none is no_sink = tt
+printed-free false refreshes closed before after none is no_sink =
+    subst (λ (all : List Refreshing). IsNoneOrMemory (end_cause all closed)) (sym none)
+    (sink_cause-free (failed_puts closed) before after (is ∙ ap (λ (all : List Refreshing). raised before (faults_of all closed)) none) no_sink)
+
 free-of : (opening : Opening) (course : Course) (files_before files_after before after : ℕ) → Fine opening → IsCourse opening course
     → files_after ≡ raised files_before (read_failures opening) → after ≡ raised before (faults_of course.refreshes course.closed)
     → (Rose files_before files_after → ⊥) → (Rose before after → ⊥) → IsNoneOrMemory (cause_of opening course)
 free-of (Stops cause) course files_before files_after before after fine possible loads faults no_read no_sink = stopped-free cause course.wanting files_before files_after fine loads no_read
 free-of (Opens scene) course files_before files_after before after fine possible loads faults no_read no_sink =
     shown-free scene course.wanting course.refreshes course.closed before after possible faults no_sink
+free-of (Prints line) course files_before files_after before after fine possible loads faults no_read no_sink =
+    printed-free course.wanting course.refreshes course.closed before after possible.0 faults no_sink
 
 -- no sheet is loaded where memory is wanting before
 unloaded-fine : (show : Show) (scene : Scene) (tree sheet : List ℕ) (of_tree : Answer) → LoadGives (Some tree) file_limit of_tree → length tree ≤ file_limit
-    → show_opening show (record { tree = Ok tree; sheet = Some (Ok sheet) }) ≡ Opens scene → Fine (show_opening show (record { tree = of_tree; sheet = None }))
+    → show_opening show (record { first = Ok tree; second = Some (Ok sheet) }) ≡ Opens scene → Fine (show_opening show (record { first = of_tree; second = None }))
 unloaded-fine show scene tree sheet (Ok bytes) gives short opens = of (texts_of bytes) (ap (λ b. in_form show.tree (texts_of b) (λ texts. sheet_opening show texts (Some (Ok sheet)))) gives.0 ∙ opens)
   where
     Stopped : Opening → Type 0
     Stopped (Stops cause) = Unit {0}
     Stopped (Opens found) = ⊥
+    Stopped (Prints line) = ⊥
 
     of : (found : Result (List (List ℕ)) Fault) → in_form show.tree found (λ texts. sheet_opening show texts (Some (Ok sheet))) ≡ Opens scene
         → Fine (in_form show.tree found (λ texts. sheet_opening show texts None))
@@ -311,22 +401,46 @@ unloaded-fine show scene tree sheet (Err NoRoom) gives short opens = tt
 
 show-fine : (show : Show) (scene : Scene) (tree sheet : List ℕ) (of_tree : Answer) (of_sheet : Option Answer)
     → LoadGives (Some tree) file_limit of_tree → length tree ≤ file_limit → IfSome of_sheet (λ answer. LoadGives (Some sheet) file_limit answer) → length sheet ≤ file_limit
-    → show_opening show (record { tree = Ok tree; sheet = Some (Ok sheet) }) ≡ Opens scene → Fine (show_opening show (record { tree = of_tree; sheet = of_sheet }))
+    → show_opening show (record { first = Ok tree; second = Some (Ok sheet) }) ≡ Opens scene → Fine (show_opening show (record { first = of_tree; second = of_sheet }))
 show-fine show scene tree sheet of_tree None gives short sheet_gives sheet_short opens = unloaded-fine show scene tree sheet of_tree gives short opens
 show-fine show scene tree sheet of_tree (Some answer) gives short sheet_gives sheet_short opens = tree-fine show scene tree sheet of_tree answer gives short sheet_gives sheet_short opens
 
-holds-fine : (words : List (List ℕ)) (told : List ℕ → Option (List ℕ)) (reading : Reading) (h : HoldsScene words told)
-    → IfSome (asked words) (λ show. IsOfFiles (Some told) show reading) → Fine (opening_of (asked words) reading)
-holds-fine words told reading h of_files =
-    let of_show : IsOfFiles (Some told) h.show reading = subst (λ wanted. IfSome wanted (λ show. IsOfFiles (Some told) show reading)) h.asks of_files in
-    let tree_gives : LoadGives (Some h.tree) file_limit reading.tree = subst (λ content. LoadGives content file_limit reading.tree) h.tree_told of_show.0 in
-    let sheet_gives : IfSome reading.sheet (λ answer. LoadGives (Some h.sheet) file_limit answer) =
-    subst (λ content. IfSome reading.sheet (λ answer. LoadGives content file_limit answer)) h.sheet_told of_show.1 in
+holds-scene : (words : List (List ℕ)) (told : List ℕ → Option (List ℕ)) (reading : Reading) (h : HoldsScene words told)
+    → IfSome (asked words) (λ task. IsOfFiles (Some told) task reading) → Fine (opening_of (asked words) reading)
+holds-scene words told reading h of_files =
+    let of_show : IsOfFiles (Some told) (Shows h.show) reading = subst (λ wanted. IfSome wanted (λ task. IsOfFiles (Some told) task reading)) h.asks of_files in
+    let tree_gives : LoadGives (Some h.tree) file_limit reading.first = subst (λ content. LoadGives content file_limit reading.first) h.tree_told of_show.0 in
+    let sheet_gives : IfSome reading.second (λ answer. LoadGives (Some h.sheet) file_limit answer) = second reading.second of_show.1 in
     subst (λ wanted. Fine (opening_of wanted reading)) (sym h.asks)
-    (show-fine h.show h.scene h.tree h.sheet reading.tree reading.sheet tree_gives h.tree_short sheet_gives h.sheet_short h.opens)
+    (show-fine h.show h.scene h.tree h.sheet reading.first reading.second tree_gives h.tree_short sheet_gives h.sheet_short h.opens)
+  where
+    second : (answer : Option Answer) → SecondGives told (Some h.show.sheet) answer → IfSome answer (λ a. LoadGives (Some h.sheet) file_limit a)
+    second None gives = tt
+    second (Some answer) gives = subst (λ content. LoadGives content file_limit answer) h.sheet_told gives
+
+-- a sheet that is in the grammar
+counts-fine : (name : List ℕ) (sheet : List ℕ) (found : Found) (answer : Answer) → LoadGives (Some sheet) file_limit answer → length sheet ≤ file_limit
+    → sheet_of sheet ≡ Ok found → Fine (check_opening name answer)
+counts-fine name sheet found (Ok bytes) gives short read =
+    subst (λ all. Fine (counted name all (sheet_of all))) (sym gives.0) (subst (λ of_sheet. Fine (counted name sheet of_sheet)) (sym read) tt)
+counts-fine name sheet found (Err Failed) gives short read = refl
+counts-fine name sheet found (Err PastLimit) gives short read = absurd (omega (arith, gives, short))
+counts-fine name sheet found (Err NoRoom) gives short read = tt
+
+holds-sheet : (words : List (List ℕ)) (told : List ℕ → Option (List ℕ)) (reading : Reading) (h : HoldsSheet words told)
+    → IfSome (asked words) (λ task. IsOfFiles (Some told) task reading) → Fine (opening_of (asked words) reading)
+holds-sheet words told reading h of_files =
+    let of_check : IsOfFiles (Some told) (Checks h.name) reading = subst (λ wanted. IfSome wanted (λ task. IsOfFiles (Some told) task reading)) h.asks of_files in
+    let gives : LoadGives (Some h.sheet) file_limit reading.first = subst (λ content. LoadGives content file_limit reading.first) h.sheet_told of_check.0 in
+    subst (λ wanted. Fine (opening_of wanted reading)) (sym h.asks) (counts-fine h.name h.sheet h.found reading.first gives h.sheet_short h.read)
+
+holds-fine : (words : List (List ℕ)) (told : List ℕ → Option (List ℕ)) (reading : Reading) → (HoldsScene words told ⊎ HoldsSheet words told)
+    → IfSome (asked words) (λ task. IsOfFiles (Some told) task reading) → Fine (opening_of (asked words) reading)
+holds-fine words told reading (inl h) of_files = holds-scene words told reading h of_files
+holds-fine words told reading (inr h) of_files = holds-sheet words told reading h of_files
 
 complete-of : (words : List (List ℕ)) (contents : Option (List ℕ → Option (List ℕ))) (reading : Reading) (course : Course) (files_before files_after before after : ℕ) (cause : Option Cause)
-    → IfSome (asked words) (λ show. IsOfFiles contents show reading) → IsCourse (opening_of (asked words) reading) course
+    → IfSome (asked words) (λ task. IsOfFiles contents task reading) → IsCourse (opening_of (asked words) reading) course
     → files_after ≡ raised files_before (read_failures (opening_of (asked words) reading)) → after ≡ raised before (faults_of course.refreshes course.closed)
     → cause ≡ cause_of (opening_of (asked words) reading) course
     → IfSome contents (λ told. IsComplete words told files_before files_after before after cause)

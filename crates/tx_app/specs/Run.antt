@@ -7,8 +7,13 @@ use Rattle.tx_io.specs.Faults.{raised}
 use Rattle.tx_io.specs.Sending.{SinkSeen, Sends, failed_puts}
 use Rattle.tx_io.specs.Loading.{FilesSeen, Load, load_of, after_loads}
 use Rattle.tx_io.specs.Store.{Answer, LoadGives}
+use Rattle.tx_parse.specs.Grammar.{Found}
+use Rattle.tx_parse.specs.Places.{line_of, column_of}
+use Rattle.tx_parse.specs.Texts.{Report, sheet_of}
+use Rattle.tx_parse.specs.declared.fault.SheetKind.{SheetKind}
+use Rattle.tx_parse.specs.declared.fault.SheetKind.TheVariants as sheet
 use Rattle.tx_term.specs.Update.{update, closing}
-use Rattle.tx_app.specs.Words.{Show, asked}
+use Rattle.tx_app.specs.Words.{Show, Task, Shows, Checks, asked}
 use Rattle.tx_app.specs.TreeForm.{Fault, texts_of, unbuilt}
 use Rattle.tx_app.specs.SheetForm.{looks_of}
 use Rattle.tx_app.specs.Scene.{Scene, picture, at_first, first_misfit, scene_of}
@@ -19,7 +24,7 @@ use Rattle.tx_app.specs.declared.outcome.Entry.TheVariants.{Refresh}
 use Rattle.tx_app.specs.declared.outcome.Outcome.{Outcome}
 use Rattle.tx_app.specs.declared.outcome.Refreshed.TheVariants.{Accepted, SinkFault as SinkFailed, NoMemory as NoGrid}
 use Rattle.tx_app.specs.declared.outcome.Refusal.{Refusal}
-use Rattle.tx_app.specs.declared.outcome.Refusal.TheVariants.{Tree, TooLong, Unbuilt}
+use Rattle.tx_app.specs.declared.outcome.Refusal.TheVariants.{Tree, Sheet, TooLong, Unbuilt}
 use Rattle.tx_tree.specs.declared.fault.TreeKind.{TreeKind}
 use Rattle.tx_tree.specs.declared.fault.TreeKind.TheVariants.{BadByte, Expected, BadIndent, DuplicateId, TooMany, TooDeep, Leaf}
 use Rattle.tx_app.specs.declared.sheet_form.Looks.{Looks}
@@ -30,21 +35,37 @@ use Rattle.tx_app.specs.declared.sheet_form.Looks.{Looks}
 abbrev pub file_limit : ℕ
 file_limit = 4194304
 
--- What the load of the tree answers, and that of the sheet, unless memory is wanting before it is made. An answer to a
--- load that comes behind a tree outside the form decides nothing.
+-- What the load of the first file answers, and that of a second one, unless memory is wanting before it is made. An answer
+-- to a load that comes behind a tree outside the form, or where no second file is asked for, decides nothing.
 pub record Reading : Type 0 where
-  pub tree : Answer
-  pub sheet : Option Answer
+  pub first : Answer
+  pub second : Option Answer
+
+-- the files that the words name: the tree and the sheet, or the sheet alone
+abbrev pub first_file : Task → List ℕ
+first_file (Shows show) = show.tree
+first_file (Checks sheet) = sheet
+
+abbrev pub second_file : Task → Option (List ℕ)
+second_file (Shows show) = Some show.sheet
+second_file (Checks sheet) = None
+
+-- an answer to the load of the second file, where there are both
+abbrev pub SecondGives : (List ℕ → Option (List ℕ)) → Option (List ℕ) → Option Answer → Type 0
+SecondGives told (Some name) (Some answer) = LoadGives (told name) file_limit answer
+SecondGives told (Some name) None = Unit {0}
+SecondGives told None answer = Unit {0}
 
 -- where the files tell what they hold, the answers are those of their contents
-abbrev pub IsOfFiles : Option (List ℕ → Option (List ℕ)) → Show → Reading → Type 0
-IsOfFiles contents show reading = IfSome contents (λ told.
-    LoadGives (told show.tree) file_limit reading.tree × IfSome reading.sheet (λ sheet. LoadGives (told show.sheet) file_limit sheet))
+abbrev pub IsOfFiles : Option (List ℕ → Option (List ℕ)) → Task → Reading → Type 0
+IsOfFiles contents task reading =
+    IfSome contents (λ told. LoadGives (told (first_file task)) file_limit reading.first × SecondGives told (second_file task) reading.second)
 
--- what the reading comes to: a cause that stops the run, or a scene
+-- what the reading comes to: a cause that stops the run, a scene, or a line that is printed
 pub data Opening : Type 0 where
   Stops : Cause → Opening
   Opens : Scene → Opening
+  Prints : List ℕ → Opening
 
 -- a file, by what its load answered
 abbrev pub loaded : List ℕ → Answer → (List ℕ → Opening) → Opening
@@ -75,12 +96,32 @@ abbrev pub texts_opening : List ℕ → Answer → (List (List ℕ) → Opening)
 texts_opening name tree next = loaded name tree (λ bytes. in_form name (texts_of bytes) next)
 
 abbrev pub show_opening : Show → Reading → Opening
-show_opening show reading = texts_opening show.tree reading.tree (λ texts. sheet_opening show texts reading.sheet)
+show_opening show reading = texts_opening show.tree reading.first (λ texts. sheet_opening show texts reading.second)
 
--- the words, then the tree, then the sheet
-abbrev pub opening_of : Option Show → Reading → Opening
+-- how many rules, declarations and variables there are, in one line
+abbrev pub counts_of : ℕ → ℕ → ℕ → List ℕ
+counts_of rules declarations variables =
+    codes "rules " ++ decimal rules ++ codes ", declarations " ++ decimal declarations ++ codes ", variables " ++ decimal variables ++ codes "\n"
+
+abbrev pub counts_line : Found → List ℕ
+counts_line found = counts_of (length found.rules) found.written found.variables
+
+-- the counts of a sheet, or its first fault
+abbrev pub counted : List ℕ → List ℕ → Result Found Report → Opening
+counted name bytes (Ok found) = Prints (counts_line found)
+counted name bytes (Err report) = Stops (Refused name (line_of bytes report.1) (column_of bytes report.1) (Sheet report.0))
+
+abbrev pub check_opening : List ℕ → Answer → Opening
+check_opening name answer = loaded name answer (λ bytes. counted name bytes (sheet_of bytes))
+
+abbrev pub task_opening : Task → Reading → Opening
+task_opening (Shows show) reading = show_opening show reading
+task_opening (Checks sheet) reading = check_opening sheet reading.first
+
+-- the words, then the files
+abbrev pub opening_of : Option Task → Reading → Opening
 opening_of None reading = Stops Usage
-opening_of (Some show) reading = show_opening show reading
+opening_of (Some task) reading = task_opening task reading
 
 -- ---- the loads
 
@@ -95,12 +136,17 @@ loads_behind show (Ok bytes) sheet = sheet_loads show.sheet sheet (texts_of byte
 loads_behind show (Err fault) sheet = []
 
 abbrev pub show_loads : Show → Reading → List Load
-show_loads show reading = load_of show.tree file_limit reading.tree ∷ loads_behind show reading.tree reading.sheet
+show_loads show reading = load_of show.tree file_limit reading.first ∷ loads_behind show reading.first reading.second
 
--- the loads that are made, in their order: none for refused words, else that of the tree, and that of the sheet behind it
-abbrev pub loads_of : Option Show → Reading → List Load
+abbrev pub task_loads : Task → Reading → List Load
+task_loads (Shows show) reading = show_loads show reading
+task_loads (Checks sheet) reading = load_of sheet file_limit reading.first ∷ []
+
+-- the loads that are made, in their order: none for refused words; that of the tree, and that of the sheet behind it; or
+-- that of the sheet alone
+abbrev pub loads_of : Option Task → Reading → List Load
 loads_of None reading = []
-loads_of (Some show) reading = show_loads show reading
+loads_of (Some task) reading = task_loads task reading
 
 -- ---- what the inputs don't decide
 
@@ -109,13 +155,14 @@ pub data Refreshing : Type 0 where
   Unmade : Refreshing
   Made : Sent → Refreshing
 
--- Whether memory was wanting outside a refresh, what became of each refresh, and what became of the closing bytes.
+-- Whether memory was wanting outside a refresh, what became of each refresh, and what became of the closing bytes or of the
+-- printed line.
 pub record Course : Type 0 where
   pub wanting : Bool
   pub refreshes : List Refreshing
   pub closed : Sent
 
--- no closing bytes were sent
+-- neither were sent
 abbrev pub unsent : Sent
 unsent = record { taken = 0; failed = false }
 
@@ -146,14 +193,20 @@ MayWant true (Refused file line column kind) = Unit {0}
 MayWant true NoMemory = Unit {0}
 MayWant true _ = ⊥
 
+-- a line is printed, unless memory was wanting before
+abbrev pub IsPrinted : List ℕ → Bool → Sent → Type 0
+IsPrinted bytes true closed = closed ≡ unsent
+IsPrinted bytes false closed = CanBeSent bytes closed
+
 -- nothing is sent where the reading stops the run
 abbrev pub IsCourse : Opening → Course → Type 0
 IsCourse (Stops cause) course = (course.refreshes ≡ []) × (course.closed ≡ unsent) × MayWant course.wanting cause
 IsCourse (Opens scene) course = IsShown scene course.wanting course.refreshes course.closed
+IsCourse (Prints bytes) course = (course.refreshes ≡ []) × IsPrinted bytes course.wanting course.closed
 
 -- ---- what follows
 
--- the bytes on `out`: for each refresh a front of its update, and then a front of the closing bytes
+-- the bytes on `out`: for each refresh a front of its update, and then a front of the closing bytes; or a front of the line
 abbrev pub refresh_bytes : List ℕ → Refreshing → List ℕ
 refresh_bytes bytes Unmade = []
 refresh_bytes bytes (Made sent) = take sent.taken bytes
@@ -161,6 +214,7 @@ refresh_bytes bytes (Made sent) = take sent.taken bytes
 abbrev pub bytes_of : Opening → Course → List ℕ
 bytes_of (Stops cause) course = []
 bytes_of (Opens scene) course = flat_map (refresh_bytes (first_update scene)) course.refreshes ++ take course.closed.taken closing
+bytes_of (Prints bytes) course = take course.closed.taken bytes
 
 -- how many puts of a refresh failed
 abbrev pub refresh_faults : Refreshing → ℕ
@@ -190,6 +244,7 @@ end_cause (_ ∷ next ∷ rest) closed = end_cause (next ∷ rest) closed
 abbrev pub cause_of : Opening → Course → Option Cause
 cause_of (Stops cause) course = Some (if course.wanting then NoMemory else cause)
 cause_of (Opens scene) course = if course.wanting then Some NoMemory else end_cause course.refreshes course.closed
+cause_of (Prints bytes) course = if course.wanting then Some NoMemory else end_cause course.refreshes course.closed
 
 abbrev pub status_of : Option Cause → ℕ
 status_of None = 0
@@ -208,8 +263,21 @@ tree_kind_bytes TooMany = codes "TooMany"
 tree_kind_bytes TooDeep = codes "TooDeep"
 tree_kind_bytes Leaf = codes "Leaf"
 
+abbrev pub sheet_kind_bytes : SheetKind → List ℕ
+sheet_kind_bytes sheet.Unclosed = codes "Unclosed"
+sheet_kind_bytes sheet.BadByte = codes "BadByte"
+sheet_kind_bytes sheet.NumberTooLong = codes "NumberTooLong"
+sheet_kind_bytes sheet.Expected = codes "Expected"
+sheet_kind_bytes sheet.UndefinedVariable = codes "UndefinedVariable"
+sheet_kind_bytes sheet.ValueTooLong = codes "ValueTooLong"
+sheet_kind_bytes sheet.UnknownProperty = codes "UnknownProperty"
+sheet_kind_bytes sheet.UnknownPseudo = codes "UnknownPseudo"
+sheet_kind_bytes sheet.BadValue = codes "BadValue"
+sheet_kind_bytes sheet.TooManyRules = codes "TooManyRules"
+
 abbrev pub kind_bytes : Refusal → List ℕ
 kind_bytes (Tree kind) = tree_kind_bytes kind
+kind_bytes (Sheet kind) = sheet_kind_bytes kind
 kind_bytes TooLong = codes "TooLong"
 kind_bytes Unbuilt = codes "Unbuilt"
 
@@ -238,7 +306,7 @@ error_bytes (Some cause) = error_line cause
 pub record IsRun (words : List (List ℕ)) (files_before files_after : FilesSeen) (out_before out_after err_before err_after : SinkSeen) (outcome : Outcome) : Type 0 where
   pub reading : Reading
   pub course : Course
-  pub of_files : IfSome (asked words) (λ show. IsOfFiles files_before.contents show reading)
+  pub of_files : IfSome (asked words) (λ task. IsOfFiles files_before.contents task reading)
   pub possible : IsCourse (opening_of (asked words) reading) course
   pub loads : files_after ≡ after_loads files_before (loads_of (asked words) reading)
   pub out : out_after.told ≡ append_known out_before.told (bytes_of (opening_of (asked words) reading) course)

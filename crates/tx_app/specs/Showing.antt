@@ -1,5 +1,5 @@
 -- What the steps of a show do.
-use Rattle.std.specs.Prelude.{◌≡◌, ◌+◌, ◌-◌, ◌^◌, min, ℕ, List, ◌++◌, map, Option, Some, IfSome}
+use Rattle.std.specs.Prelude.{◌≡◌, ◌+◌, ◌-◌, ◌^◌, min, ℕ, List, ◌++◌, map, take, Option, Some, IfSome}
 use Rattle.std.specs.Io.KnownBytes.{append_known}
 use Rattle.tx_io.specs.declared.send.Sent.{Sent}
 use Rattle.tx_io.specs.Faults.{raised}
@@ -7,7 +7,7 @@ use Rattle.tx_io.specs.Loading.{FilesSeen, after_loads}
 use Rattle.tx_io.specs.Sending.{SinkSeen, failed_puts}
 use Rattle.tx_app.specs.Scene.{Scene}
 use Rattle.tx_app.specs.Words.{asked}
-use Rattle.tx_app.specs.Run.{Reading, IsOfFiles, opening_of, loads_of, Refreshing, Course, CanBecome, first_update, refresh_bytes, refresh_faults, entry_of, Opens, IsCourse, bytes_of, faults_of, cause_of, sink_cause}
+use Rattle.tx_app.specs.Run.{Reading, IsOfFiles, opening_of, loads_of, Refreshing, Course, CanBeSent, CanBecome, first_update, refresh_bytes, refresh_faults, entry_of, Opens, IsCourse, bytes_of, faults_of, cause_of, sink_cause}
 use Rattle.tx_app.specs.declared.outcome.Cause.{Cause}
 use Rattle.tx_app.specs.declared.outcome.Cause.TheVariants.{NoMemory}
 use Rattle.tx_app.specs.declared.outcome.Entry.{Entry}
@@ -37,11 +37,19 @@ pub record Shows (before after : SinkSeen) (scene : Scene) (journal_before journ
   pub journal : journal_after ≡ journal_before ++ map entry_of course.refreshes
   pub cause_is : cause ≡ cause_of (Opens scene) course
 
+-- the printing of a line: how far it was sent, and the cause
+pub record IsPrinting (before after : SinkSeen) (line : List ℕ) (cause : Option Cause) : Type 0 where
+  pub sent : Sent
+  pub possible : CanBeSent line sent
+  pub told : after.told ≡ append_known before.told (take sent.taken line)
+  pub faults : after.faults ≡ raised before.faults (failed_puts sent)
+  pub cause_is : cause ≡ sink_cause (failed_puts sent)
+
 -- the run up to its error line
 pub record Runs (words : List (List ℕ)) (files_before files_after : FilesSeen) (before after : SinkSeen) (journal : List Entry) (cause : Option Cause) : Type 0 where
   pub reading : Reading
   pub course : Course
-  pub of_files : IfSome (asked words) (λ show. IsOfFiles files_before.contents show reading)
+  pub of_files : IfSome (asked words) (λ task. IsOfFiles files_before.contents task reading)
   pub possible : IsCourse (opening_of (asked words) reading) course
   pub loads : files_after ≡ after_loads files_before (loads_of (asked words) reading)
   pub told : after.told ≡ append_known before.told (bytes_of (opening_of (asked words) reading) course)

@@ -34,10 +34,26 @@ size_of (name ∷ width ∷ other ∷ height ∷ []) =
     if bytes_eq name (codes "--width") && bytes_eq other (codes "--height") then size_of_sides (side 1024 width) (side 512 height) else None
 size_of _ = None
 
--- the words behind the program's name: `show`, the two files, the options
-abbrev pub asked : List (List ℕ) → Option Show
-asked (_ ∷ mode ∷ tree ∷ sheet ∷ options) =
-    if bytes_eq mode (codes "show") && (is_file tree && is_file sheet)
-    then option_map (λ size. record { tree = tree; sheet = sheet; size = size }) (size_of options)
-    else None
+-- ---- what the words ask for
+
+pub data Task : Type 0 where
+  -- one picture
+  Shows : Show → Task
+  -- the counts of a sheet, named by its file
+  Checks : List ℕ → Task
+
+-- the two files and the options of a picture
+abbrev pub shows : List (List ℕ) → Option Task
+shows (tree ∷ sheet ∷ options) =
+    if is_file tree && is_file sheet then option_map (λ size. Shows (record { tree = tree; sheet = sheet; size = size })) (size_of options) else None
+shows _ = None
+
+-- the file of a sheet
+abbrev pub checks : List (List ℕ) → Option Task
+checks (sheet ∷ []) = if is_file sheet then Some (Checks sheet) else None
+checks _ = None
+
+-- the words behind the program's name: what to do, and to what
+abbrev pub asked : List (List ℕ) → Option Task
+asked (_ ∷ mode ∷ words) = if bytes_eq mode (codes "show") then shows words else if bytes_eq mode (codes "check") then checks words else None
 asked _ = None

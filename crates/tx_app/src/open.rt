@@ -1,20 +1,23 @@
 //! From the words to a scene.
-ghost use Rattle.std.specs.Prelude.{◌≡◌, ◌<◌, ◌^◌, map, length, string_bytes, IfOk};
+ghost use Rattle.std.specs.Prelude.{◌≡◌, ◌<◌, ◌^◌, map, length, string_bytes, decimal, ◌++◌, IfOk, OnOk};
 ghost use Rattle.std.specs.List.{AllPass, AllByRecursion};
 ghost use Rattle.tx_cell.specs.Plain.{is_printable};
 ghost use Rattle.tx_io.specs.Loading.{files_seen};
-ghost use Rattle.tx_app.specs.Opening.{IsStop, Loads, OpensSheet, OpensTexts, OpensTree, OpensWords};
+ghost use Rattle.tx_app.specs.Run.{counts_of};
+ghost use Rattle.tx_app.specs.Opening.{IsStop, Loads, Counts, IsCounted, OpensCheck, OpensSheet, OpensTexts, OpensTree, OpensWords};
 ghost use Rattle.tx_app.specs.Words.{IsScreen};
 ghost use Rattle.tx_app.specs.declared.outcome.Cause.TheVariants.{Refused};
 
 use crate::outcome::{Cause, Refusal};
 use crate::scene::{Scene, first_misfit, scene_of};
-use crate::sheet_form::read_sheet;
+use crate::sheet_form::read_looks;
 use crate::tree_form::{FormFault, read_texts};
-use crate::words::read_words;
-use std::alloc::Global;
+use crate::words::{Task, read_words};
+use itoa::Buffer;
+use std::alloc::{AllocError, Global};
 use tx_geom::Size;
 use tx_io::{Files, LoadFault};
+use tx_parse::{Sheet, SheetFault, read_sheet};
 use tx_tree::Text;
 
 const FILE_LIMIT: u64 = 4_194_304;
@@ -69,7 +72,7 @@ fn open_sheet<F: Files>(
         Ok(bytes) => bytes,
         Err(cause) => return Err(cause),
     };
-    let looks = match read_sheet(&bytes) {
+    let looks = match read_looks(&bytes) {
         Ok(looks) => looks,
         Err(line) => return Err(refused(alloc, sheet, line, 1, Refusal::Unbuilt)),
     };
@@ -116,15 +119,95 @@ fn open_tree<F: Files>(
     }
 }
 
-/// The scene that the words ask for.
-pub fn open_words<F: Files>(alloc: Global, files: &mut F, words: &[String]) -> Result<Scene, Cause>
+/// Adds these words and a number behind them.
+fn push_count(out: &mut Vec<u8>, words: &[u8], count: usize) -> Result<(), AllocError>
+    ensures { OnOk result (out.new.items ≡ out.old.items ++ words.now ++ decimal count) }
+{
+    out.extend_from_slice(words)?;
+    let mut buffer = Buffer::new();
+    out.extend_from_slice(buffer.format(count).as_bytes())
+}
+
+/// A line of counts: how many rules, declarations and variables there are.
+fn counts_of(
+    alloc: Global,
+    rules: usize,
+    declarations: u32,
+    variables: u32,
+) -> Result<Vec<u8>, AllocError>
+    ensures { IfOk result (λ line. line.items ≡ counts_of rules declarations variables) }
+{
+    let mut line = Vec::new(alloc);
+    push_count(&mut line, b"rules ", rules)?;
+    push_count(&mut line, b", declarations ", declarations as usize)?;
+    push_count(&mut line, b", variables ", variables as usize)?;
+    line.extend_from_slice(b"\n")?;
+    Ok(line)
+}
+
+/// The counts of a sheet.
+fn counts_line(alloc: Global, sheet: &Sheet) -> Result<Vec<u8>, Cause>
+    ensures { IsCounted sheet.now result }
+{
+    let rules = sheet.rules().as_slice().len();
+    match counts_of(alloc, rules, sheet.declarations(), sheet.variables()) {
+        Ok(line) => Ok(line),
+        Err(_) => Err(Cause::NoMemory),
+    }
+}
+
+/// The counts of the sheet in these bytes.
+fn counted(alloc: Global, name: &str, bytes: &[u8]) -> Result<Vec<u8>, Cause>
+    requires { length bytes.now < 2 ^ 32 }
+    ensures { Counts name.now bytes.now result }
+{
+    match read_sheet(alloc, bytes) {
+        Ok(sheet) => counts_line(alloc, &sheet),
+        Err(SheetFault::Text { line, column, kind }) => {
+            Err(refused(alloc, name, line, column, Refusal::Sheet(kind)))
+        }
+        Err(SheetFault::NoMemory) => Err(Cause::NoMemory),
+    }
+}
+
+/// The counts of a sheet that is to be loaded.
+fn open_check<F: Files>(alloc: Global, files: &mut F, name: &str) -> Result<Vec<u8>, Cause>
+    ensures { OpensCheck
+        (files_seen (F.contents files.old) (F.loads files.old) (F.faults files.old))
+        (files_seen (F.contents files.new) (F.loads files.new) (F.faults files.new))
+        name.now result }
+{
+    match load(alloc, files, name) {
+        Ok(bytes) => counted(alloc, name, &bytes),
+        Err(cause) => Err(cause),
+    }
+}
+
+/// What is to be done.
+#[derive(Drop)]
+pub enum Opened {
+    /// A scene is shown.
+    Picture(Scene),
+    /// A line is printed.
+    Line(Vec<u8>),
+}
+
+/// What the words ask for, with the files that they name.
+pub fn open_words<F: Files>(alloc: Global, files: &mut F, words: &[String]) -> Result<Opened, Cause>
     ensures { OpensWords
         (files_seen (F.contents files.old) (F.loads files.old) (F.faults files.old))
         (files_seen (F.contents files.new) (F.loads files.new) (F.faults files.new))
         (map string_bytes words.now) result }
 {
     match read_words(words) {
-        Some(show) => open_tree(alloc, files, show.tree, show.sheet, show.size),
+        Some(Task::Show(show)) => match open_tree(alloc, files, show.tree, show.sheet, show.size) {
+            Ok(scene) => Ok(Opened::Picture(scene)),
+            Err(cause) => Err(cause),
+        },
+        Some(Task::Check(sheet)) => match open_check(alloc, files, sheet) {
+            Ok(line) => Ok(Opened::Line(line)),
+            Err(cause) => Err(cause),
+        },
         None => Err(Cause::Usage),
     }
 }

@@ -1,6 +1,7 @@
 //! What a run comes to.
 
 use crate::journal::Journal;
+use tx_parse::SheetKind;
 use tx_tree::{Text, TreeKind};
 
 /// What a run did.
@@ -68,6 +69,8 @@ pub enum Cause {
 pub enum Refusal {
     /// The line is the first one of the tree file that breaks a rule of its grammar.
     Tree(TreeKind),
+    /// The place is that of the sheet's first fault.
+    Sheet(SheetKind),
     /// The file is longer than 4 MiB.
     TooLong,
     /// The line has a form that can't be shown yet, or its Static doesn't fit on the screen.

@@ -2,11 +2,12 @@
 ghost use Rattle.std.specs.Prelude.{◌≡◌, false, decimal};
 ghost use Rattle.tx_io.specs.Sending.{seen};
 ghost use Rattle.tx_app.specs.Report.{Says, IsReported};
-ghost use Rattle.tx_app.specs.Run.{error_bytes, error_line, kind_bytes, tree_kind_bytes, refused_line};
+ghost use Rattle.tx_app.specs.Run.{error_bytes, error_line, kind_bytes, tree_kind_bytes, sheet_kind_bytes, refused_line};
 
 use crate::outcome::{Cause, Refusal};
 use itoa::Buffer;
 use tx_io::{Sink, send_all};
+use tx_parse::SheetKind;
 use tx_tree::TreeKind;
 
 /// Sends a piece behind others, unless a put of those failed. Answers whether one has failed.
@@ -40,11 +41,29 @@ fn tree_kind_bytes(kind: TreeKind) -> &'static [u8]
     }
 }
 
+fn sheet_kind_bytes(kind: SheetKind) -> &'static [u8]
+    ensures { result.now ≡ sheet_kind_bytes kind }
+{
+    match kind {
+        SheetKind::Unclosed => b"Unclosed",
+        SheetKind::BadByte => b"BadByte",
+        SheetKind::NumberTooLong => b"NumberTooLong",
+        SheetKind::Expected => b"Expected",
+        SheetKind::UndefinedVariable => b"UndefinedVariable",
+        SheetKind::ValueTooLong => b"ValueTooLong",
+        SheetKind::UnknownProperty => b"UnknownProperty",
+        SheetKind::UnknownPseudo => b"UnknownPseudo",
+        SheetKind::BadValue => b"BadValue",
+        SheetKind::TooManyRules => b"TooManyRules",
+    }
+}
+
 fn kind_bytes(kind: Refusal) -> &'static [u8]
     ensures { result.now ≡ kind_bytes kind }
 {
     match kind {
         Refusal::Tree(kind) => tree_kind_bytes(kind),
+        Refusal::Sheet(kind) => sheet_kind_bytes(kind),
         Refusal::TooLong => b"TooLong",
         Refusal::Unbuilt => b"Unbuilt",
     }

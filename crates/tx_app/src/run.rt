@@ -2,14 +2,14 @@
 ghost use Rattle.std.specs.Prelude.{◌≡◌, [], map, IfSome, string_bytes};
 ghost use Rattle.tx_io.specs.Loading.{files_seen};
 ghost use Rattle.tx_io.specs.Sending.{seen, Sends, failed_puts};
-ghost use Rattle.tx_app.specs.Run.{IsRun, status_of, entry_of, Made};
+ghost use Rattle.tx_app.specs.Run.{IsRun, status_of, entry_of, sink_cause, Made};
 ghost use Rattle.tx_app.specs.Scene.{at_first};
-ghost use Rattle.tx_app.specs.Showing.{Refreshes, Runs, Shows, entry_cause};
+ghost use Rattle.tx_app.specs.Showing.{Refreshes, IsPrinting, Runs, Shows, entry_cause};
 ghost use Rattle.tx_app.specs.Faults.{CausedBy, IsComplete, read_faults, sink_faults};
 ghost use Rattle.tx_term.specs.Update.{closing};
 
 use crate::journal::Journal;
-use crate::open::open_words;
+use crate::open::{Opened, open_words};
 use crate::outcome::{Cause, Entry, Outcome, Refreshed};
 use crate::report::report;
 use crate::scene::Scene;
@@ -91,14 +91,7 @@ fn end_cause(entry: Entry, closed: Sent) -> Option<Cause>
     let Entry::Refresh { result, faults, .. } = entry;
     match result {
         Refreshed::NoMemory => Some(Cause::NoMemory),
-        _ => {
-            let rose = faults.saturating_add(failures(closed));
-            if rose == 0 {
-                None
-            } else {
-                Some(Cause::SinkFault { rose })
-            }
-        }
+        _ => { sink_cause(faults.saturating_add(failures(closed))) }
     }
 }
 
@@ -126,6 +119,25 @@ fn show<K: Sink>(
     }
 }
 
+/// The cause of a run that so many puts of the last bytes failed in.
+fn sink_cause(rose: u64) -> Option<Cause>
+    ensures { result ≡ sink_cause rose }
+{
+    if rose == 0 {
+        None
+    } else {
+        Some(Cause::SinkFault { rose })
+    }
+}
+
+/// Sends a line.
+fn print<K: Sink>(out: &mut K, line: &[u8]) -> Option<Cause>
+    ensures { IsPrinting (seen (K.taken out.old) (K.faults out.old)) (seen (K.taken out.new) (K.faults out.new)) line.now result }
+{
+    let sent = send_all(out, line);
+    sink_cause(failures(sent))
+}
+
 fn run<F: Files, K: Sink>(
     alloc: Global,
     words: &[String],
@@ -140,7 +152,8 @@ fn run<F: Files, K: Sink>(
         (seen (K.taken out.old) (K.faults out.old)) (seen (K.taken out.new) (K.faults out.new)) journal.new.items result }
 {
     match open_words(alloc, files, words) {
-        Ok(scene) => show(alloc, &scene, out, journal),
+        Ok(Opened::Picture(scene)) => show(alloc, &scene, out, journal),
+        Ok(Opened::Line(line)) => print(out, &line),
         Err(cause) => Some(cause),
     }
 }
@@ -159,6 +172,9 @@ fn status_of(cause: &Option<Cause>) -> u8
 }
 
 /// Does what the words ask for, the program's name before them.
+///
+/// `check SHEET` loads the sheet and reads it, and prints how many rules, declarations and variables
+/// it has to `out`, in one line.
 ///
 /// `show TREE SHEET`, with `--width W --height H` behind it or without, sends one whole update of
 /// the picture of the tree under the sheet to `out`, and then the closing bytes, each as far as

@@ -139,7 +139,7 @@ fn read_rule(looks: Looks, line: &[u8]) -> Option<Looks>
 #[tactic(auto, unfolding(crate::specs::SheetForm::looks_of))]
 /// What a sheet says of the Screen and of Statics, or the number of the first line outside the
 /// form.
-pub fn read_sheet(bytes: &[u8]) -> Result<Looks, u32>
+pub fn read_looks(bytes: &[u8]) -> Result<Looks, u32>
     requires { length bytes.now < 2 ^ 31 }
     ensures { result ≡ looks_of bytes.now }
 {

@@ -1,3 +1,4 @@
+mod checks;
 mod recorded;
 
 use crate::{Cause, Entry, Outcome, Refreshed, Refusal, top_alone};
@@ -209,6 +210,14 @@ fn is_cause(cause: &Option<Cause>, status: u8) -> bool {
                 ..
             },
         ) => status == 2 && *column == 1,
+        Some(
+            Cause::Refused {
+                kind: Refusal::Sheet(_),
+                line,
+                column,
+                ..
+            },
+        ) => status == 2 && *line > 0 && *column > 0,
         Some(Cause::ReadFault { rose }) => status == 3 && *rose == 1,
         Some(Cause::SinkFault { .. }) => status == 5,
         Some(Cause::NoMemory) => status == 6,
@@ -251,7 +260,15 @@ fn other_words_are_refused(rt: HostRuntime) -> Result<(), Fail> {
 /// Each tree is refused with this line.
 fn refuses_trees(rt: &HostRuntime, cases: &[(&[u8], &str)]) -> Result<(), Fail> {
     for (tree, line) in cases {
-        refuses(rt, &Given { tree: *tree, ..STATICS }, 2, *line)?;
+        refuses(
+            rt,
+            &Given {
+                tree: *tree,
+                ..STATICS
+            },
+            2,
+            *line,
+        )?;
     }
     Ok(())
 }
@@ -303,10 +320,7 @@ fn the_first_fault_of_a_tree_is_named(rt: HostRuntime) -> Result<(), Fail> {
         (b"Screen\n  Static \"a\\b\"\n", "tx: t.tree:2:1: Expected\n"),
         (b"Screen\n  Static \"\xff\"\n", "tx: t.tree:2:1: BadByte\n"),
         (b"Screen\n    Static\n", "tx: t.tree:2:1: BadIndent\n"),
-        (
-            b"Screen\n  Button\n    Static\n",
-            "tx: t.tree:3:1: Leaf\n",
-        ),
+        (b"Screen\n  Button\n    Static\n", "tx: t.tree:3:1: Leaf\n"),
         (
             b"Screen\n  Static #a\n  Static #a\n",
             "tx: t.tree:3:1: DuplicateId\n",

@@ -1,6 +1,7 @@
 //! The words of the command line.
 ghost use Rattle.std.specs.Prelude.{◌≡◌, ◌≤◌, map, option_map, string_bytes, IfSome};
-ghost use Rattle.tx_app.specs.Words.{Show, IsScreen, asked, is_file, side, size_of};
+ghost use Rattle.tx_app.specs.Words.{IsScreen, asked, shows, checks, is_file, side, size_of};
+ghost use Rattle.tx_app.specs.Asking.{task_of, IsPossible};
 
 use tx_geom::Size;
 use tx_read::number_at_most;
@@ -13,23 +14,63 @@ pub struct Show<'a> {
     pub size: Size,
 }
 
+/// What the words ask for.
+#[derive(Drop)]
+pub enum Task<'a> {
+    Show(Show<'a>),
+    /// The counts of a sheet, named by its file.
+    Check(&'a str),
+}
+
 /// What the words ask for, the program's name before them. None where they are refused.
-pub fn read_words(words: &[String]) -> Option<Show<'_>>
-    ensures asks { option_map (λ show. record { tree = show.tree.now; sheet = show.sheet.now; size = show.size }) result ≡ asked (map string_bytes words.now) }
-    ensures screen { IfSome result (λ show. IsScreen show.size) }
+pub fn read_words(words: &[String]) -> Option<Task<'_>>
+    ensures asks { option_map task_of result ≡ asked (map string_bytes words.now) }
+    ensures screen { IfSome result IsPossible }
 {
-    let [_, mode, tree, sheet, options @ ..] = words else {
+    let [_, mode, files @ ..] = words else {
         return None;
     };
-    if !(mode.as_str() == "show" && is_file(tree.as_str()) && is_file(sheet.as_str())) {
+    if mode.as_str() == "show" {
+        return shows(files);
+    }
+    if mode.as_str() == "check" {
+        return checks(files);
+    }
+    None
+}
+
+/// The two files and the options of a picture.
+fn shows(words: &[String]) -> Option<Task<'_>>
+    ensures asks { option_map task_of result ≡ shows (map string_bytes words.now) }
+    ensures screen { IfSome result IsPossible }
+{
+    let [tree, sheet, options @ ..] = words else {
+        return None;
+    };
+    if !(is_file(tree.as_str()) && is_file(sheet.as_str())) {
         return None;
     }
     let size = size_of(options)?;
-    Some(Show {
+    Some(Task::Show(Show {
         tree: tree.as_str(),
         sheet: sheet.as_str(),
         size,
-    })
+    }))
+}
+
+/// The file of a sheet.
+fn checks(words: &[String]) -> Option<Task<'_>>
+    ensures asks { option_map task_of result ≡ checks (map string_bytes words.now) }
+    ensures screen { IfSome result IsPossible }
+{
+    let [sheet] = words else {
+        return None;
+    };
+    if is_file(sheet.as_str()) {
+        Some(Task::Check(sheet.as_str()))
+    } else {
+        None
+    }
 }
 
 fn is_file(word: &str) -> bool

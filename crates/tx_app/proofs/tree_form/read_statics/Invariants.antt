@@ -1,4 +1,4 @@
-use Rattle.std.proofs.Common.{◌≡◌, ◌≤◌, ◌+◌, length, drop}
+use Rattle.std.proofs.Common.{◌≡◌, ◌+◌, length, drop}
 use Rattle.std.specs.List.{AllPass, AllByRecursion}
 use Rattle.tx_cell.specs.Plain.{is_printable}
 use Rattle.tx_app.specs.TreeForm.{statics}

@@ -1,4 +1,4 @@
-use Rattle.std.proofs.Common.{Vec, Global, ℕ, List, sym, ap, subst, ◌∙◌}
+use Rattle.std.proofs.Common.{sym, ap, subst, ◌∙◌}
 use Rattle.tx_app.specs.Reading.{ReadsForm}
 use Rattle.tx_app.specs.TreeForm.{unbuilt, texts_in, below_screen, texts_of}
 use Rattle.tx_app.proofs.FormLemmas.{below_screen_plain}

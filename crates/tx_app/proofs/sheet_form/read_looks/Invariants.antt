@@ -1,7 +1,7 @@
 use Rattle.std.proofs.Common.{◌≡◌, ◌+◌, ◌≤◌, length}
 use Rattle.tx_read.specs.Pieces.{pieces}
 use Rattle.tx_app.specs.SheetForm.{looks_behind, looks_of}
-use Rattle.tx_app.proofs.sheet_form.read_sheet.Given as goal
+use Rattle.tx_app.proofs.sheet_form.read_looks.Given as goal
 
 -- What the rest makes of the looks so far is what the sheet says.
 abbrev pub invariant-loop-line : goal.invariant-loop-line

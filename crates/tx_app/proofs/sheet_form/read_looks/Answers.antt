@@ -1,6 +1,6 @@
 use Rattle.std.proofs.Common.{sym, arith}
 use Rattle.tx_app.proofs.FormLemmas.{looks_more, looks_bad}
-use Rattle.tx_app.proofs.sheet_form.read_sheet.Goals as goal
+use Rattle.tx_app.proofs.sheet_form.read_looks.Goals as goal
 
 pub returns-in_default-read_rule : goal.returns-in_default-read_rule
 returns-in_default-read_rule c =
