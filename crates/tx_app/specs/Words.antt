@@ -12,7 +12,9 @@ pub record Show : Type 0 where
 
 -- a screen within the limits
 pub record IsScreen (size : Size) : Type 0 where
+  pub some_width : 1 ≤ size.width
   pub width : size.width ≤ 1024
+  pub some_height : 1 ≤ size.height
   pub height : size.height ≤ 512
 
 -- a file name doesn't begin with `-`

@@ -58,7 +58,7 @@ pub enum Cause {
     },
     /// A put failed.
     SinkFault {
-        /// How many puts of the last refresh and of the closing bytes failed.
+        /// How many puts of the last refresh and of the closing bytes failed, or of the printed line.
         rose: u64,
     },
     NoMemory,

@@ -100,6 +100,7 @@ fn size_of(options: &[String]) -> Option<Size>
 
 fn side(greatest: u32, word: &str) -> Option<u32>
     ensures side { result ≡ side greatest word.now }
+    ensures some { IfSome result (λ n. 1 ≤ n) }
     ensures within { IfSome result (λ n. n ≤ greatest) }
 {
     if word.len() > 10 {
