@@ -24,6 +24,7 @@ use Rattle.tx_app.specs.declared.outcome.Cause.{Cause}
 use Rattle.tx_app.specs.declared.outcome.Cause.TheVariants.{Usage, Refused, ReadFault, SinkFault, NoMemory}
 use Rattle.tx_app.specs.declared.outcome.Entry.{Entry}
 use Rattle.tx_app.specs.declared.sheet_form.Looks.{Looks}
+use Rattle.tx_parse.proofs.WholeTexts.{text_sheet}
 use Rattle.tx_app.proofs.ShowingLemmas.{append_known-nothing, raised-none}
 
 -- ---- the reading and the show, joined
@@ -432,7 +433,7 @@ holds-sheet : (words : List (List ℕ)) (told : List ℕ → Option (List ℕ)) 
 holds-sheet words told reading h of_files =
     let of_check : IsOfFiles (Some told) (Checks h.name) reading = subst (λ wanted. IfSome wanted (λ task. IsOfFiles (Some told) task reading)) h.asks of_files in
     let gives : LoadGives (Some h.sheet) file_limit reading.first = subst (λ content. LoadGives content file_limit reading.first) h.sheet_told of_check.0 in
-    subst (λ wanted. Fine (opening_of wanted reading)) (sym h.asks) (counts-fine h.name h.sheet h.found reading.first gives h.sheet_short h.read)
+    subst (λ wanted. Fine (opening_of wanted reading)) (sym h.asks) (counts-fine h.name h.sheet h.found reading.first gives h.sheet_short (text_sheet h.sheet h.found h.grammar))
 
 holds-fine : (words : List (List ℕ)) (told : List ℕ → Option (List ℕ)) (reading : Reading) → (HoldsScene words told ⊎ HoldsSheet words told)
     → IfSome (asked words) (λ task. IsOfFiles (Some told) task reading) → Fine (opening_of (asked words) reading)

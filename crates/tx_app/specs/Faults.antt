@@ -2,7 +2,7 @@
 use Rattle.std.specs.Prelude.{◌≡◌, ◌≤◌, ◌⊎◌, ℕ, List, length, Option, Some, None, Ok}
 use Rattle.tx_io.specs.Faults.{raised, Rose}
 use Rattle.tx_parse.specs.Grammar.{Found}
-use Rattle.tx_parse.specs.Texts.{sheet_of}
+use Rattle.tx_parse.specs.Texts.{IsSheetText}
 use Rattle.tx_app.specs.Words.{Show, Shows, Checks, asked}
 use Rattle.tx_app.specs.Scene.{Scene}
 use Rattle.tx_app.specs.Run.{Opens, show_opening, file_limit}
@@ -51,7 +51,7 @@ pub record HoldsSheet (words : List (List ℕ)) (told : List ℕ → Option (Lis
   pub asks : asked words ≡ Some (Checks name)
   pub sheet_told : told name ≡ Some sheet
   pub sheet_short : length sheet ≤ file_limit
-  pub read : sheet_of sheet ≡ Ok found
+  pub grammar : IsSheetText sheet found
 
 abbrev pub IsComplete : List (List ℕ) → (List ℕ → Option (List ℕ)) → ℕ → ℕ → ℕ → ℕ → Option Cause → Type 0
 IsComplete words told files_before files_after out_before out_after cause =

@@ -1,9 +1,10 @@
 -- What holds of the reading of sheets and of inline texts.
-use Rattle.std.specs.Prelude.{◌≡◌, List, [], ◌∷◌, ◌++◌, Ok, Err}
+use Rattle.std.specs.Prelude.{◌≡◌, ℕ, List, [], ◌∷◌, ◌++◌, Ok, Err}
 use Rattle.tx_lex.specs.Lexemes.{Lexeme}
 use Rattle.tx_parse.specs.Grammar.{Body, Found, IsSheet, IsBody}
 use Rattle.tx_parse.specs.declared.fault.Wrong.{Wrong}
 use Rattle.tx_parse.specs.Reads.{sheet_at, inline_at}
+use Rattle.tx_parse.specs.Texts.{sheet_of, inline_of, IsSheetText, IsInlineText}
 
 -- a list of tokens is read exactly where it is in the grammar, as what it is there
 abbrev pub SheetsAreRead : Type 0
