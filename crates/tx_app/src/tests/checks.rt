@@ -70,7 +70,7 @@ fn the_first_fault_of_a_sheet_is_named(rt: HostRuntime) -> Result<(), Fail> {
         ),
         (
             b"/* \xc3\xa9 */ Button { color: /**/ 1; }",
-            "tx: s.tcss:1:31: BadValue\n",
+            "tx: s.tcss:1:30: BadValue\n",
         ),
         (b"Button { \xff", "tx: s.tcss:1:10: BadByte\n"),
     ];
