@@ -18,3 +18,4 @@ pub mod SheetSteps
 pub mod Turns
 pub mod ValueSteps
 pub mod WholeTexts
+pub mod DefaultRead

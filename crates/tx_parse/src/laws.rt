@@ -1,5 +1,5 @@
 //! What holds of the definitions.
-ghost use Rattle.tx_parse.specs.Laws.{SheetsAreRead, InlineTextsAreRead, TextsAreRead, FaultsAreFirst};
+ghost use Rattle.tx_parse.specs.Laws.{SheetsAreRead, InlineTextsAreRead, TextsAreRead, DefaultSheetIsRead, FaultsAreFirst};
 
 /// A list of tokens is read as a sheet exactly where it is in the grammar.
 pub fn sheets_are_read()
@@ -14,6 +14,11 @@ pub fn inline_texts_are_read()
 /// Bytes are read exactly where they are a sheet, or an inline text, in the grammar.
 pub fn texts_are_read()
     ensures { TextsAreRead }
+{}
+
+/// The text of the default sheet is a sheet in the grammar, with 19 rules.
+pub fn default_sheet_is_read()
+    ensures { DefaultSheetIsRead }
 {}
 
 /// Where a fault is met at a token, nothing that begins with the tokens up to and with that one is
