@@ -2,4 +2,6 @@ pub mod Faults
 pub mod Loading
 pub mod Memory
 pub mod Sending
+pub mod Sink
 pub mod Store
+pub mod Ticks

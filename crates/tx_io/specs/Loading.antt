@@ -18,9 +18,6 @@ pub record FilesSeen : Type 0 where
   pub loads : Option (List Load)
   pub faults : ℕ
 
-abbrev pub files_seen : Option (List ℕ → Option (List ℕ)) → Option (List Load) → ℕ → FilesSeen
-files_seen contents loads faults = record { contents = contents; loads = loads; faults = faults }
-
 -- further loads behind those that are told
 abbrev pub append_loads : Option (List Load) → List Load → Option (List Load)
 append_loads told loads = option_map (λ past. past ++ loads) told

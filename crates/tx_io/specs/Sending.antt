@@ -1,16 +1,9 @@
 -- What is said of bytes that were sent to a sink.
-use Rattle.std.specs.Prelude.{◌≡◌, ◌<◌, ℕ, List, length, take, true, false, if◌then◌else◌, Option}
+use Rattle.std.specs.Prelude.{◌≡◌, ◌<◌, ℕ, List, length, take, true, false, if◌then◌else◌}
 use Rattle.std.specs.Io.KnownBytes.{append_known}
 use Rattle.tx_io.specs.declared.send.Sent.{Sent}
 use Rattle.tx_io.specs.Faults.{raised}
-
--- What a sink tells of the bytes that it has taken, and how many puts have failed.
-pub record SinkSeen : Type 0 where
-  pub told : Option (List ℕ)
-  pub faults : ℕ
-
-abbrev pub seen : Option (List ℕ) → ℕ → SinkSeen
-seen told faults = record { told = told; faults = faults }
+use Rattle.tx_io.specs.Sink.{SinkSeen}
 
 -- how many puts failed
 abbrev pub failed_puts : Sent → ℕ

@@ -33,9 +33,7 @@ impl<W> WriterSink<W> {
 }
 
 impl<W: Write> Sink for WriterSink<W> {
-    ghost taken = { λ _. None };
-
-    ghost faults = { λ s. s };
+    ghost seen = { λ s. record { told = None; faults = s } };
 
     fn put(&mut self, piece: &[u8]) -> Result<usize, Failed> {
         match self.writer.write(piece) {
@@ -79,11 +77,7 @@ fn read_front<R: rt::Files>(rt: &R, alloc: Global, name: &str, limit: u64) -> io
 }
 
 impl<R: rt::Files> Files for HostFiles<'_, R> {
-    ghost contents = { λ _. None };
-
-    ghost loads = { λ _. None };
-
-    ghost faults = { λ f. f };
+    ghost seen = { λ f. record { contents = None; loads = None; faults = f } };
 
     fn load(&mut self, alloc: Global, name: &str, limit: u64) -> Result<Vec<u8>, LoadFault> {
         match read_front(self.rt, alloc, name, limit) {

@@ -52,11 +52,7 @@ fn content_of<'a>(files: &'a [(String, Vec<u8>)], name: &str) -> Option<&'a [u8]
 impl Files for MemoryFiles {
     ghost use Rattle.tx_io.specs.Loading.{Load, load_of, append_loads};
 
-    ghost contents = { λ f. Some (look_up f.entries) };
-
-    ghost loads = { λ _. None };
-
-    ghost faults = { λ f. f.faults };
+    ghost seen = { λ f. record { contents = Some (look_up f.entries); loads = None; faults = f.faults } };
 
     fn load(&mut self, alloc: Global, name: &str, limit: u64) -> Result<Vec<u8>, LoadFault>
         ensures gives { LoadGives (look_up self.old.entries name.now) limit (answer_of result) }

@@ -1,4 +1,4 @@
-ghost use Rattle.tx_io.specs.Sending.{Sends, seen};
+ghost use Rattle.tx_io.specs.Sending.{Sends};
 
 use crate::sink::{Failed, Sink};
 
@@ -13,7 +13,7 @@ pub struct Sent {
 
 /// Puts the bytes until all are taken or a put fails. No bytes make no put.
 pub fn send_all<K: Sink>(sink: &mut K, bytes: &[u8]) -> Sent
-    ensures { Sends (seen (K.taken sink.old) (K.faults sink.old)) (seen (K.taken sink.new) (K.faults sink.new)) bytes.now result }
+    ensures { Sends (K.seen sink.old) (K.seen sink.new) bytes.now result }
 {
     let mut rest = bytes;
     while !rest.is_empty() {

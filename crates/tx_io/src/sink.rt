@@ -1,4 +1,4 @@
-ghost use Rattle.std.specs.Prelude.{◌≡◌, ◌≤◌, ◌<◌, ℕ, List, Option, length, take, IfOk, OnErr, OnOk};
+ghost use Rattle.std.specs.Prelude.{◌≡◌, ◌≤◌, ◌<◌, length, take, IfOk, OnErr, OnOk};
 ghost use Rattle.std.specs.Io.KnownBytes.{append_known};
 ghost use Rattle.tx_io.specs.Faults.{raised};
 
@@ -8,19 +8,18 @@ pub struct Failed;
 
 /// What takes bytes, as a terminal or a file does.
 pub trait Sink {
-    /// The bytes taken so far, where the sink tells them.
-    ghost taken: { Self → Option (List ℕ) };
+    ghost use Rattle.tx_io.specs.Sink.{SinkSeen};
 
-    /// How many puts have failed.
-    ghost faults: { Self → ℕ };
+    /// The bytes taken so far, where the sink tells them, and how many puts have failed.
+    ghost seen: { Self → SinkSeen };
 
     /// Takes a front of the piece and says how many bytes it has. Of a piece that isn't empty it
     /// takes at least one byte, or it fails and takes nothing.
     fn put(&mut self, piece: &[u8]) -> Result<usize, Failed>
         ensures within { IfOk result (λ n. n ≤ length piece.now) }
         ensures some { IfOk result (λ n. 0 < length piece.now → 0 < n) }
-        ensures taken { IfOk result (λ n. taken self.new ≡ append_known (taken self.old) (take n piece.now)) }
-        ensures kept { OnErr result (taken self.new ≡ taken self.old) }
-        ensures failed { OnErr result (faults self.new ≡ raised (faults self.old) 1) }
-        ensures quiet { OnOk result (faults self.new ≡ faults self.old) };
+        ensures taken { IfOk result (λ n. (seen self.new).told ≡ append_known (seen self.old).told (take n piece.now)) }
+        ensures kept { OnErr result ((seen self.new).told ≡ (seen self.old).told) }
+        ensures failed { OnErr result ((seen self.new).faults ≡ raised (seen self.old).faults 1) }
+        ensures quiet { OnOk result ((seen self.new).faults ≡ (seen self.old).faults) };
 }

@@ -1,5 +1,6 @@
 use crate::{
-    Failed, Files, HostFiles, LoadFault, MemoryFiles, MemorySink, Sent, Sink, WriterSink, send_all,
+    Counted, Failed, Files, HostFiles, Ledger, LoadFault, MemoryFiles, MemorySink, Sent, Sink,
+    Steps, Tick, Uncounted, WriterSink, send_all,
 };
 use std::alloc::AllocError;
 use std::test::Fail;
@@ -112,4 +113,34 @@ fn a_file_of_the_host_is_loaded_whole(rt: HostRuntime) -> Result<(), Fail> {
     assert_eq!(rt; cut.err(), Some(LoadFault::TooLong));
     assert_eq!(rt; gone.err(), Some(LoadFault::Failed));
     Ok(())
+}
+
+/// Two tests, an arrangement and three cells.
+fn six_ticks<L: Ledger>(steps: &mut Steps<L>) {
+    steps.tick(Tick::Test);
+    steps.tick(Tick::Cell);
+    steps.tick(Tick::Arranged);
+    steps.tick(Tick::Cell);
+    steps.tick(Tick::Test);
+    steps.tick(Tick::Cell);
+}
+
+#[test]
+fn ticks_are_counted_by_their_sort(rt: HostRuntime) {
+    let mut steps = Steps {
+        ledger: Counted {
+            tests: 0,
+            arranged: 5,
+            cells: u64::MAX - 1,
+        },
+    };
+    six_ticks(&mut steps);
+    let wanted = Counted {
+        tests: 2,
+        arranged: 6,
+        cells: u64::MAX,
+    };
+    assert_eq!(rt; steps.ledger, wanted);
+    let mut untold = Steps { ledger: Uncounted };
+    six_ticks(&mut untold);
 }

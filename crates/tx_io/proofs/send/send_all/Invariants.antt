@@ -7,8 +7,8 @@ abbrev pub invariant-loop-rest : goal.invariant-loop-rest
 invariant-loop-rest g l = record {
   short : length l.rest ≤ length l.bytes;
   rest : l.rest ≡ drop (length l.bytes - length l.rest) l.bytes;
-  content : g.K.Sink.taken l.sink ≡ append_known (g.K.Sink.taken l.fn.sink) (take (length l.bytes - length l.rest) l.bytes);
-  quiet : g.K.Sink.faults l.sink ≡ g.K.Sink.faults l.fn.sink;
+  content : (g.K.Sink.seen l.sink).told ≡ append_known (g.K.Sink.seen l.fn.sink).told (take (length l.bytes - length l.rest) l.bytes);
+  quiet : (g.K.Sink.seen l.sink).faults ≡ (g.K.Sink.seen l.fn.sink).faults;
 }
 
 abbrev pub decreases-loop-rest : goal.decreases-loop-rest
