@@ -1,2 +1,4 @@
+pub mod Along
 pub mod Colour
+pub mod Marks
 pub mod Region

@@ -2,6 +2,8 @@
 
 ghost use Rattle.std.specs.Prelude.{◌≡◌, ◌↔◌, ◌≤◌, ◌<◌, ℤ, pos, ◌+ℤ◌, ◌-ℤ◌, ◌≤ℤ◌, ◌<ℤ◌, IsTrue};
 
+use crate::choices::Axis;
+
 /// A place, or a way from one place to another: `x` columns to the right and `y` rows down.
 #[derive(Clone, Copy, Debug, Default, PartialEq, Eq, Hash)]
 pub struct Offset {
@@ -37,9 +39,86 @@ pub struct Spacing {
     pub left: u16,
 }
 
+ghost use Rattle.tx_geom.specs.Along.{side, ahead_of, behind_of, room_along, less, region_of};
 ghost use Rattle.tx_geom.specs.Region.{Holds, IsAmong, IsNear, IsNearPlace, corner, nothing_at, shrunk, moved, moved_place};
 
+impl Size {
+    /// The width along `Axis::Width`, and the height along `Axis::Height`.
+    pub fn along(self, axis: Axis) -> u32
+        ensures { result ≡ side axis self }
+    {
+        match axis {
+            Axis::Width => self.width,
+            Axis::Height => self.height,
+        }
+    }
+
+    /// What is left of the size inside a spacing: each side is less by the two rooms along it, and
+    /// at least 0.
+    pub fn less(self, by: Spacing) -> Size
+        ensures { result ≡ less self by }
+    {
+        Size {
+            width: self.width.saturating_sub(by.along(Axis::Width)),
+            height: self.height.saturating_sub(by.along(Axis::Height)),
+        }
+    }
+}
+
+impl Spacing {
+    /// The room before what stands inside: on the left along `Axis::Width`, and at the top along
+    /// `Axis::Height`.
+    pub fn before(self, axis: Axis) -> u16
+        ensures { result ≡ ahead_of axis self }
+    {
+        match axis {
+            Axis::Width => self.left,
+            Axis::Height => self.top,
+        }
+    }
+
+    /// The room behind what stands inside: on the right along `Axis::Width`, and at the bottom along
+    /// `Axis::Height`.
+    pub fn behind(self, axis: Axis) -> u16
+        ensures { result ≡ behind_of axis self }
+    {
+        match axis {
+            Axis::Width => self.right,
+            Axis::Height => self.bottom,
+        }
+    }
+
+    /// The room before and the room behind, together.
+    pub fn along(self, axis: Axis) -> u32
+        ensures { result ≡ room_along axis self }
+    {
+        self.before(axis) as u32 + self.behind(axis) as u32
+    }
+}
+
 impl Region {
+    /// The region of a size whose top left cell is at a place.
+    pub fn of(at: Offset, size: Size) -> Region
+        ensures { result ≡ region_of at size }
+    {
+        Region {
+            x: at.x,
+            y: at.y,
+            width: size.width,
+            height: size.height,
+        }
+    }
+
+    /// The width and the height.
+    pub fn size(self) -> Size
+        ensures size { result ≡ record { width = self.width; height = self.height } }
+    {
+        Size {
+            width: self.width,
+            height: self.height,
+        }
+    }
+
     /// The cells in both regions.
     ///
     /// Where there are none, the answer has size 0 by 0 at this region's place. Coordinates lie
@@ -85,8 +164,8 @@ impl Region {
         Region {
             x: self.x + by.left as i64,
             y: self.y + by.top as i64,
-            width: self.width.saturating_sub(by.left as u32 + by.right as u32),
-            height: self.height.saturating_sub(by.top as u32 + by.bottom as u32),
+            width: self.width.saturating_sub(by.along(Axis::Width)),
+            height: self.height.saturating_sub(by.along(Axis::Height)),
         }
     }
 

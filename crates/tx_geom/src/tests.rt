@@ -1,6 +1,6 @@
 ghost use Rattle.tx_geom.specs.Region.{IsNearPlace, corner};
 
-use crate::{Colour, Offset, Region, Rgb, Spacing, blend};
+use crate::{Axis, Colour, Offset, Region, Rgb, Size, Spacing, TextStyle, blend};
 
 fn near_region(x: i8, y: i8, width: u8, height: u8) -> Region
     ensures { IsNearPlace (corner result) }
@@ -108,4 +108,46 @@ fn blends(rt: HostRuntime) {
     assert_eq!(rt; blend(clear, grey(9)), grey(9));
     let solid = Colour { alpha: 100, ..blue };
     assert_eq!(rt; blend(solid, grey(9)), blue.rgb);
+}
+
+#[test]
+fn sizes_and_spacings_have_two_directions(rt: HostRuntime) {
+    let size = Size {
+        width: 10,
+        height: 3,
+    };
+    let by = Spacing {
+        top: 1,
+        right: 2,
+        bottom: 4,
+        left: 8,
+    };
+    for (axis, side, before, behind) in [(Axis::Width, 10, 8, 2), (Axis::Height, 3, 1, 4)] {
+        assert_eq!(rt; size.along(axis), side);
+        assert_eq!(rt; by.before(axis), before);
+        assert_eq!(rt; by.behind(axis), behind);
+        assert_eq!(rt; by.along(axis), before as u32 + behind as u32);
+    }
+    let inside = Size {
+        width: 0,
+        height: 0,
+    };
+    assert_eq!(rt; size.less(by), inside);
+    let whole = Region::of(Offset { x: -1, y: 7 }, size);
+    assert_eq!(rt; whole, region((-1, 7, 10, 3)));
+    assert_eq!(rt; whole.size(), size);
+}
+
+#[test]
+fn marks_are_joined(rt: HostRuntime) {
+    let bold = TextStyle {
+        bold: true,
+        ..TextStyle::PLAIN
+    };
+    let struck = TextStyle {
+        strike: true,
+        ..bold
+    };
+    assert_eq!(rt; bold.with(struck), struck);
+    assert_eq!(rt; TextStyle::PLAIN.with(TextStyle::PLAIN), TextStyle::PLAIN);
 }
