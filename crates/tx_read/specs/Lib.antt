@@ -1,3 +1,5 @@
+pub mod Answer
 pub mod Number
 pub mod Pieces
 pub mod Reading
+pub mod Words

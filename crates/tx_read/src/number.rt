@@ -1,7 +1,30 @@
-ghost use Rattle.std.specs.Prelude.{◌≡◌, ◌-◌, ◌^◌, min};
+//! Numbers in plain digits.
+ghost use Rattle.std.specs.Prelude.{◌≡◌, ◌-◌, ◌^◌, ◌≤◌, ◌++◌, min, length, decimal, OnOk};
 ghost use Rattle.std.specs.Char.{is_ascii_digit};
-ghost use Rattle.std.specs.List.{list_all};
+ghost use Rattle.std.specs.List.{list_all, prefix_len};
 ghost use Rattle.tx_read.specs.Number.{number_at_most, is_number, value};
+
+use itoa::Buffer;
+use std::alloc::AllocError;
+
+/// How many digits stand at the front.
+pub fn digit_count(bytes: &[u8]) -> usize
+    ensures count { result ≡ prefix_len is_ascii_digit bytes.now }
+    ensures within { result ≤ length bytes.now }
+{
+    bytes
+        .iter()
+        .take_while(|byte| byte.is_ascii_digit())
+        .count()
+}
+
+/// Adds a number at the end, in digits without leading zeros.
+pub fn push_number(out: &mut Vec<u8>, number: u64) -> Result<(), AllocError>
+    ensures { OnOk result (out.new.items ≡ out.old.items ++ decimal number) }
+{
+    let mut buffer = Buffer::new();
+    out.extend_from_slice(buffer.format(number).as_bytes())
+}
 
 /// The number that plain digits write, leading zeros allowed. None where there is another byte or
 /// none, and where the number is above the limit.
@@ -31,7 +54,7 @@ fn all_digits(bytes: &[u8]) -> bool
 }
 
 /// The number that digits write, or the greatest one where it is above that.
-fn capped_value(bytes: &[u8]) -> u64
+pub fn capped_value(bytes: &[u8]) -> u64
     ensures { result ≡ min (value bytes.now) (2 ^ 64 - 1) }
 {
     let mut value = 0u64;

@@ -1,4 +1,7 @@
-use crate::{number_at_most, split_once, strip_prefix};
+use crate::{
+    behind, capped_value, digit_count, entry, front, number_at_most, push_number, split_once,
+    strip_prefix,
+};
 use std::test::Fail;
 
 #[test]
@@ -67,5 +70,42 @@ fn a_prefix_is_taken_off(rt: HostRuntime) -> Result<(), Fail> {
             "{bytes:?} behind {prefix:?}"
         );
     }
+    Ok(())
+}
+
+#[test]
+fn slices_are_cut(rt: HostRuntime) -> Result<(), Fail> {
+    let cases: [(usize, &[u8], &[u8]); 4] = [
+        (0, b"", b"abc"),
+        (2, b"ab", b"c"),
+        (3, b"abc", b""),
+        (9, b"abc", b""),
+    ];
+    for (count, first, rest) in cases {
+        assert_eq!(rt; front(b"abc", count), first, "{count}");
+        assert_eq!(rt; behind(b"abc", count), rest, "{count}");
+    }
+    Ok(())
+}
+
+#[test]
+fn words_are_found_in_tables(rt: HostRuntime) -> Result<(), Fail> {
+    let table: [(&[u8], u8); 3] = [(b"one", 1), (b"two", 2), (b"one", 3)];
+    assert_eq!(rt; entry(&table, b"one"), Some(1));
+    assert_eq!(rt; entry(&table, b"two"), Some(2));
+    assert_eq!(rt; entry(&table, b"tw"), None);
+    Ok(())
+}
+
+#[test]
+fn digits_are_counted_and_written(rt: HostRuntime) -> Result<(), Fail> {
+    let mut out = b"at ".to_vec(rt.alloc())?;
+    push_number(&mut out, 0)?;
+    push_number(&mut out, u64::MAX)?;
+    assert_eq!(rt; out.as_slice(), b"at 018446744073709551615".as_slice());
+    assert_eq!(rt; digit_count(b"0123x4"), 4);
+    assert_eq!(rt; digit_count(b"x"), 0);
+    assert_eq!(rt; capped_value(b"042"), 42);
+    assert_eq!(rt; capped_value(b"18446744073709551616"), u64::MAX);
     Ok(())
 }

@@ -2,8 +2,8 @@
 use Rattle.std.proofs.Common.{◌≡◌, ℕ, zero, suc, ◌+◌, ◌≤◌, Bool, true, false, cond, List, [], ◌∷◌, ◌++◌, length, Result, Ok, Err, refl, ap, sym, ◌∙◌, arith}
 use Rattle.std.proofs.lemmas.List.{append_cancel_right}
 use Rattle.tx_read.specs.Reading.{Reader, ◌>>=◌, in_turn, ends_at, then_items, many_within, many, with_items, whole, Shrinks, ByFirst, IsLocal, Leaves}
-use Rattle.tx_read.proofs.Locality.{in_turn-local, in_turn-leaves}
-use Rattle.tx_read.proofs.ManyItems.{many_within-enough}
+use Rattle.tx_read.proofs.lemmas.Locality.{in_turn-local, in_turn-leaves}
+use Rattle.tx_read.proofs.lemmas.ManyItems.{many_within-enough}
 
 -- a reader that takes nothing
 abbrev nothing_read : {T K A : Type 0} → A → Reader (List T) (K × List T) A
