@@ -1,10 +1,11 @@
 -- The token that is read is the longest of all kinds.
-use Rattle.std.proofs.Common.{◌≡◌, ◌⊎◌, inl, inr, ℕ, zero, suc, ◌+◌, ◌<◌, ◌≤◌, Bool, true, false, cond, ◌&&◌, ◌||◌, nat_eq, nat_le, List, [], ◌∷◌, length, take, None, Some, refl, ap, sym, ◌∙◌, subst, arith}
-use Rattle.std.proofs.lemmas.Bool.{eqb-true, ne_eqb}
+use Rattle.std.proofs.Common.{◌≡◌, inl, inr, ℕ, zero, suc, ◌+◌, ◌<◌, ◌≤◌, Bool, true, false, cond, ◌&&◌, ◌||◌, nat_eq, nat_le, List, [], ◌∷◌, length, take, None, Some, refl, ap, sym, ◌∙◌, subst, arith}
+use Rattle.std.proofs.lemmas.Bool.{and_parts, and_right, eqb-true, ne_eqb, or_cases}
 use Rattle.std.proofs.lemmas.Bool.Decides.{nat_tests}
 use Rattle.std.specs.Char.{is_ascii_alphabetic, is_ascii_digit}
 use Rattle.std.specs.List.{list_all, prefix_len}
-use Rattle.tx_lex.specs.Bytes.{is_blank, begins_name, is_name_byte, is_mark}
+use Rattle.tx_text.specs.Name.{begins_name, continues_name}
+use Rattle.tx_lex.specs.Bytes.{is_blank, is_mark}
 use Rattle.tx_lex.specs.Tokens.{is_space, is_comment, is_name, is_hash, is_variable, is_number, is_whole, is_behind_point, is_unsigned, is_mark_of, is_token, IsLongest, PassesNone, IsLongestToken, BeginsNone}
 use Rattle.tx_lex.specs.Lexing.{hash_len, variable_len}
 use Rattle.tx_lex.specs.declared.token.TokenKind.{TokenKind}
@@ -21,11 +22,11 @@ pub refuses-space : (b : ℕ) → is_blank b ≡ false → Refuses is_space b
 refuses-space b is xs = ap (λ first. first && list_all is_blank xs) is
 
 pub refuses-name : (b : ℕ) → begins_name b ≡ false → Refuses is_name b
-refuses-name b is xs = ap (λ first. first && list_all is_name_byte xs) is
+refuses-name b is xs = ap (λ first. first && list_all continues_name xs) is
 
 pub refuses-hash : (b : ℕ) → nat_eq b 35 ≡ false → Refuses is_hash b
 refuses-hash b is [] = refl
-refuses-hash b is (x ∷ xs) = ap (λ first. first && (is_name_byte x && list_all is_name_byte xs)) is
+refuses-hash b is (x ∷ xs) = ap (λ first. first && (continues_name x && list_all continues_name xs)) is
 
 pub refuses-variable : (b : ℕ) → nat_eq b 36 ≡ false → Refuses is_variable b
 refuses-variable b is xs = ap (λ first. first && is_name xs) is
@@ -92,20 +93,16 @@ none-of_all b bytes space comment name hash variable number mark Number = number
 none-of_all b bytes space comment name hash variable number mark (Mark m) = none-first (is_mark_of m) b bytes refl refused
   where
     refused : (xs : List ℕ) → is_mark_of m (b ∷ xs) ≡ false
-    refused [] = ap (λ is. nat_eq b m && is) mark ∙ never (nat_eq b m)
-      where
-        never : (t : Bool) → (t && false) ≡ false
-        never true = refl
-        never false = refl
+    refused [] = and_right (nat_eq b m) (is_mark b) mark
     refused (x ∷ xs) = refl
 
 -- a name, a hash or a variable is one that begins rightly and goes on with name bytes
 variable-name : (b : ℕ) → nat_eq b 36 ≡ true → (xs : List ℕ) → is_variable (b ∷ xs) ≡ is_name xs
 variable-name b is xs = ap (λ first. first && is_name xs) is
 
-hash-some : (b : ℕ) → nat_eq b 35 ≡ true → (xs : List ℕ) → is_hash (b ∷ xs) ≡ some_of is_name_byte xs
+hash-some : (b : ℕ) → nat_eq b 35 ≡ true → (xs : List ℕ) → is_hash (b ∷ xs) ≡ some_of continues_name xs
 hash-some b is [] = refl
-hash-some b is (x ∷ xs) = ap (λ first. first && (is_name_byte x && list_all is_name_byte xs)) is
+hash-some b is (x ∷ xs) = ap (λ first. first && (continues_name x && list_all continues_name xs)) is
 
 two_more : (n : ℕ) → 2 + n ≡ suc (1 + n)
 two_more n = omega arith
@@ -117,18 +114,18 @@ finds-hash b [] is = none-next-nothing
     none-next-nothing zero within = refl
     none-next-nothing (suc zero) within = refl
     none-next-nothing (suc (suc m)) within = refl
-finds-hash b (x ∷ bytes) is = of (is_name_byte x) refl
+finds-hash b (x ∷ bytes) is = of (continues_name x) refl
   where
-    of : (name : Bool) → is_name_byte x ≡ name → Finds is_hash (b ∷ x ∷ bytes) (cond name (Some (2 + prefix_len is_name_byte bytes)) None)
-    of true named = subst (IsLongest is_hash (b ∷ x ∷ bytes)) (sym (two_more (prefix_len is_name_byte bytes)))
-        (longest-next is_hash (some_of is_name_byte) b (x ∷ bytes) (1 + prefix_len is_name_byte bytes) (hash-some b is) (longest-some is_name_byte x bytes named))
-    of false named = finds-next is_hash (some_of is_name_byte) b (x ∷ bytes) None (hash-some b is) refl (none-some is_name_byte x bytes named)
+    of : (name : Bool) → continues_name x ≡ name → Finds is_hash (b ∷ x ∷ bytes) (cond name (Some (2 + prefix_len continues_name bytes)) None)
+    of true named = subst (IsLongest is_hash (b ∷ x ∷ bytes)) (sym (two_more (prefix_len continues_name bytes)))
+        (longest-next is_hash (some_of continues_name) b (x ∷ bytes) (1 + prefix_len continues_name bytes) (hash-some b is) (longest-some continues_name x bytes named))
+    of false named = finds-next is_hash (some_of continues_name) b (x ∷ bytes) None (hash-some b is) refl (none-some continues_name x bytes named)
 
-pub longest-name : (b : ℕ) (bytes : List ℕ) → begins_name b ≡ true → IsLongest is_name (b ∷ bytes) (1 + prefix_len is_name_byte bytes)
+pub longest-name : (b : ℕ) (bytes : List ℕ) → begins_name b ≡ true → IsLongest is_name (b ∷ bytes) (1 + prefix_len continues_name bytes)
 longest-name b bytes is =
-    let next : 1 + prefix_len is_name_byte bytes ≡ suc (prefix_len is_name_byte bytes) = omega arith in
+    let next : 1 + prefix_len continues_name bytes ≡ suc (prefix_len continues_name bytes) = omega arith in
     subst (IsLongest is_name (b ∷ bytes)) (sym next)
-    (longest-next is_name (list_all is_name_byte) b bytes (prefix_len is_name_byte bytes) (λ xs. ap (λ first. first && list_all is_name_byte xs) is) (longest-all is_name_byte bytes))
+    (longest-next is_name (list_all continues_name) b bytes (prefix_len continues_name bytes) (λ xs. ap (λ first. first && list_all continues_name xs) is) (longest-all continues_name bytes))
 
 pub finds-variable : (b : ℕ) (bytes : List ℕ) → nat_eq b 36 ≡ true → Finds is_variable (b ∷ bytes) (variable_len bytes)
 finds-variable b [] is = none-next-nothing
@@ -139,10 +136,10 @@ finds-variable b [] is = none-next-nothing
     none-next-nothing (suc (suc m)) within = variable-name b is []
 finds-variable b (x ∷ bytes) is = of (begins_name x) refl
   where
-    of : (name : Bool) → begins_name x ≡ name → Finds is_variable (b ∷ x ∷ bytes) (cond name (Some (2 + prefix_len is_name_byte bytes)) None)
-    of true named = subst (IsLongest is_variable (b ∷ x ∷ bytes)) (sym (two_more (prefix_len is_name_byte bytes)))
-        (longest-next is_variable is_name b (x ∷ bytes) (1 + prefix_len is_name_byte bytes) (variable-name b is) (longest-name x bytes named))
-    of false named = finds-next is_variable is_name b (x ∷ bytes) None (variable-name b is) refl (none-first is_name x bytes refl (λ xs. ap (λ first. first && list_all is_name_byte xs) named))
+    of : (name : Bool) → begins_name x ≡ name → Finds is_variable (b ∷ x ∷ bytes) (cond name (Some (2 + prefix_len continues_name bytes)) None)
+    of true named = subst (IsLongest is_variable (b ∷ x ∷ bytes)) (sym (two_more (prefix_len continues_name bytes)))
+        (longest-next is_variable is_name b (x ∷ bytes) (1 + prefix_len continues_name bytes) (variable-name b is) (longest-name x bytes named))
+    of false named = finds-next is_variable is_name b (x ∷ bytes) None (variable-name b is) refl (none-first is_name x bytes refl (λ xs. ap (λ first. first && list_all continues_name xs) named))
 
 -- ---- the class of a first byte
 
@@ -152,21 +149,13 @@ above-not b c above = ne_eqb b c (λ e. omega (arith, above, e))
 below-not : (b c : ℕ) → b < c → nat_eq b c ≡ false
 below-not b c below = ne_eqb b c (λ e. omega (arith, below, e))
 
-pub or-cases : (s t : Bool) → (s || t) ≡ true → (s ≡ true) ⊎ (t ≡ true)
-or-cases true t is = inl refl
-or-cases false t is = inr is
-
-pub and-both : (s t : Bool) → (s && t) ≡ true → (s ≡ true) × (t ≡ true)
-and-both true t is = (refl, is)
-and-both false t is = absurd (let clash : false ≡ true = is in cc)
-
 at_byte : (blank name hash dollar slash number : Bool) (b c : ℕ) → b ≡ c → First c blank name hash dollar slash number → First b blank name hash dollar slash number
 at_byte blank name hash dollar slash number b c e first = subst (λ n. First n blank name hash dollar slash number) (sym e) first
 
 pub first-blank : (b : ℕ) → is_blank b ≡ true → First b true false false false false false
-first-blank b is = elim (or-cases (nat_eq b 32 || nat_eq b 9 || nat_eq b 10) (nat_eq b 13) is) [
-  | inl low ↦ elim (or-cases (nat_eq b 32 || nat_eq b 9) (nat_eq b 10) low) [
-    | inl lower ↦ elim (or-cases (nat_eq b 32) (nat_eq b 9) lower) [
+first-blank b is = elim (or_cases (nat_eq b 32 || nat_eq b 9 || nat_eq b 10) (nat_eq b 13) is) [
+  | inl low ↦ elim (or_cases (nat_eq b 32 || nat_eq b 9) (nat_eq b 10) low) [
+    | inl lower ↦ elim (or_cases (nat_eq b 32) (nat_eq b 9) lower) [
       | inl at ↦ at_byte _ _ _ _ _ _ b 32 (eqb-true b 32 at) (record { is_blank_is = refl; is_name_is = refl; is_hash_is = refl; is_dollar_is = refl; is_slash_is = refl; is_number_is = refl })
       | inr at ↦ at_byte _ _ _ _ _ _ b 9 (eqb-true b 9 at) (record { is_blank_is = refl; is_name_is = refl; is_hash_is = refl; is_dollar_is = refl; is_slash_is = refl; is_number_is = refl })
     ]
@@ -197,10 +186,10 @@ first-letter b is high = record {
     ltb-false high = grind (arith, nat_tests)
 
 letter-high : (b : ℕ) → begins_name b ≡ true → 58 ≤ b
-letter-high b is = elim (or-cases (is_ascii_alphabetic b) (nat_eq b 95) is) [
-  | inl letter ↦ elim (or-cases (nat_le 65 b && nat_le b 90) (nat_le 97 b && nat_le b 122) letter) [
-    | inl upper ↦ at_least 65 (and-both (nat_le 65 b) (nat_le b 90) upper).0 (omega arith)
-    | inr lower ↦ at_least 97 (and-both (nat_le 97 b) (nat_le b 122) lower).0 (omega arith)
+letter-high b is = elim (or_cases (is_ascii_alphabetic b) (nat_eq b 95) is) [
+  | inl letter ↦ elim (or_cases (nat_le 65 b && nat_le b 90) (nat_le 97 b && nat_le b 122) letter) [
+    | inl upper ↦ at_least 65 (and_parts (nat_le 65 b) (nat_le b 90) upper).0 (omega arith)
+    | inr lower ↦ at_least 97 (and_parts (nat_le 97 b) (nat_le b 122) lower).0 (omega arith)
   ]
   | inr at ↦ omega (arith, eqb-true b 95 at)
 ]

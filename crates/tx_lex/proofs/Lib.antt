@@ -5,4 +5,4 @@ pub mod LongestTokens
 pub mod Numbers
 pub mod OneKind
 pub mod Scanning
-pub mod TokenKinds
+pub mod lemmas

@@ -1,31 +1,28 @@
 -- The token that is read is the longest of all kinds, and none is read where none begins.
 use Rattle.std.proofs.Common.{◌≡◌, inl, inr, ℕ, zero, suc, ◌+◌, ◌<◌, Bool, true, false, cond, ◌&&◌, ◌||◌, nat_eq, List, [], ◌∷◌, take, Option, None, Some, option_map, refl, ap, sym, ◌∙◌, subst, arith}
-use Rattle.std.proofs.lemmas.Bool.{eqb-true, eq-eqb}
+use Rattle.std.proofs.lemmas.Bool.{eqb-true, eq-eqb, or_cases, or_parts}
 use Rattle.std.specs.Char.{is_ascii_digit}
 use Rattle.std.specs.List.{list_all, prefix_len}
-use Rattle.tx_lex.specs.Bytes.{is_blank, begins_name, is_name_byte, is_mark}
+use Rattle.tx_text.specs.Name.{begins_name, continues_name}
+use Rattle.tx_lex.specs.Bytes.{is_blank, is_mark}
 use Rattle.tx_lex.specs.Tokens.{is_space, is_comment, is_name, is_hash, is_variable, is_number, is_token, IsLongest, PassesNone, IsLongestToken, BeginsNone}
 use Rattle.tx_lex.specs.Lexing.{behind_point_len, hash_len, variable_len, comment_len, whole_len, unsigned_len, number_len, of_kind, number_or_point, longest_token}
 use Rattle.tx_lex.specs.declared.token.TokenKind.{TokenKind}
 use Rattle.tx_lex.specs.declared.token.TokenKind.TheVariants.{Space, Comment, Name, Hash, Variable, Number, Mark}
 use Rattle.tx_lex.proofs.Longest.{Finds, none-first, longest-next, longest-all}
 use Rattle.tx_lex.proofs.Numbers.{finds-number, finds-comment, comment-other}
-use Rattle.tx_lex.proofs.FirstBytes.{First, first-blank, first-name, first-hash, first-dollar, first-slash, or-cases, Refuses, refuses-space, refuses-name, refuses-hash, refuses-variable, refuses-number, NoneLonger, refused-longer, mark-longer, AllShort, longest-of_all, none-of_all, finds-hash, finds-variable, longest-name}
+use Rattle.tx_lex.proofs.FirstBytes.{First, first-blank, first-name, first-hash, first-dollar, first-slash, Refuses, refuses-space, refuses-name, refuses-hash, refuses-variable, refuses-number, NoneLonger, refused-longer, mark-longer, AllShort, longest-of_all, none-of_all, finds-hash, finds-variable, longest-name}
 
 -- what is found is the longest token, or none begins
 abbrev pub Judges : List ℕ → Option (TokenKind × ℕ) → Type 0
 Judges bytes None = BeginsNone bytes
 Judges bytes (Some found) = IsLongestToken bytes found.0 found.1
 
-neither : (s t u : Bool) → (s || t || u) ≡ false → (s ≡ false) × (t ≡ false) × (u ≡ false)
-neither true t u is = absurd (let clash : true ≡ false = is in cc)
-neither false true u is = absurd (let clash : true ≡ false = is in cc)
-neither false false u is = (refl, refl, is)
-
 pub refuses-numbers : (b : ℕ) → (is_ascii_digit b || nat_eq b 45 || nat_eq b 46) ≡ false → Refuses is_number b
 refuses-numbers b is =
-    let none : (is_ascii_digit b ≡ false) × (nat_eq b 45 ≡ false) × (nat_eq b 46 ≡ false) = neither (is_ascii_digit b) (nat_eq b 45) (nat_eq b 46) is in
-    refuses-number b none.0 none.1 none.2
+    let outer : ((is_ascii_digit b || nat_eq b 45) ≡ false) × (nat_eq b 46 ≡ false) = or_parts (is_ascii_digit b || nat_eq b 45) (nat_eq b 46) is in
+    let inner : (is_ascii_digit b ≡ false) × (nat_eq b 45 ≡ false) = or_parts (is_ascii_digit b) (nat_eq b 45) outer.0 in
+    refuses-number b inner.0 inner.1 outer.1
 
 -- a token has a byte
 pub longest-some_bytes : (kind : TokenKind) (bytes : List ℕ) (n : ℕ) → IsLongest (is_token kind) bytes n → 0 < n
@@ -128,10 +125,10 @@ space-judged b bytes is =
     (longest-next is_space (list_all is_blank) b bytes (prefix_len is_blank bytes) (λ xs. ap (λ first. first && list_all is_blank xs) is) (longest-all is_blank bytes)) in
     longest-of_all Space b bytes (1 + prefix_len is_blank bytes) (omega arith) longest (short_space b bytes (1 + prefix_len is_blank bytes) (first-blank b is) longest.none_longer)
 
-name-judged : (b : ℕ) (bytes : List ℕ) → begins_name b ≡ true → Judges (b ∷ bytes) (Some (Name, 1 + prefix_len is_name_byte bytes))
+name-judged : (b : ℕ) (bytes : List ℕ) → begins_name b ≡ true → Judges (b ∷ bytes) (Some (Name, 1 + prefix_len continues_name bytes))
 name-judged b bytes is =
-    let longest : IsLongest is_name (b ∷ bytes) (1 + prefix_len is_name_byte bytes) = longest-name b bytes is in
-    longest-of_all Name b bytes (1 + prefix_len is_name_byte bytes) (omega arith) longest (short_name b bytes (1 + prefix_len is_name_byte bytes) (first-name b is) longest.none_longer)
+    let longest : IsLongest is_name (b ∷ bytes) (1 + prefix_len continues_name bytes) = longest-name b bytes is in
+    longest-of_all Name b bytes (1 + prefix_len continues_name bytes) (omega arith) longest (short_name b bytes (1 + prefix_len continues_name bytes) (first-name b is) longest.none_longer)
 
 hash-judged : (b : ℕ) (bytes : List ℕ) (found : Option ℕ) → nat_eq b 35 ≡ true → Finds is_hash (b ∷ bytes) found → Judges (b ∷ bytes) (of_kind Hash found)
 hash-judged b bytes (Some n) is longest = longest-of_all Hash b bytes n (longest-some_bytes Hash (b ∷ bytes) n longest) longest (short_hash b bytes n (first-hash b is) longest.none_longer)
@@ -200,8 +197,8 @@ number-judged b bytes (Some n) len other is longest = longest-of_all Number b by
 number-judged b bytes None len other is none = of (nat_eq b 46) refl
   where
     no_mark : nat_eq b 46 ≡ false → is_mark b ≡ false
-    no_mark point = elim (or-cases (is_ascii_digit b || nat_eq b 45) (nat_eq b 46) is) [
-      | inl left ↦ elim (or-cases (is_ascii_digit b) (nat_eq b 45) left) [
+    no_mark point = elim (or_cases (is_ascii_digit b || nat_eq b 45) (nat_eq b 46) is) [
+      | inl left ↦ elim (or_cases (is_ascii_digit b) (nat_eq b 45) left) [
         | inl digit ↦ absurd (digit-number b bytes digit len)
         | inr sign ↦ ap is_mark (eqb-true b 45 sign)
       ]
@@ -260,12 +257,12 @@ longest_token-judged (b ∷ bytes) = on_blank (is_blank b) refl
     on_hash false blank name is = on_dollar (nat_eq b 36) blank name is refl
 
     on_name : (name : Bool) → is_blank b ≡ false → begins_name b ≡ name
-        → Judges (b ∷ bytes) (cond name (Some (Name, 1 + prefix_len is_name_byte bytes)) (cond (nat_eq b 35) (of_kind Hash (hash_len bytes)) (cond (nat_eq b 36) (of_kind Variable (variable_len bytes)) (cond (nat_eq b 47) (of_kind Comment (comment_len (b ∷ bytes))) (cond (is_ascii_digit b || nat_eq b 45 || nat_eq b 46) (number_or_point b (number_len (b ∷ bytes))) (cond (is_mark b) (Some (Mark b, 1)) None))))))
+        → Judges (b ∷ bytes) (cond name (Some (Name, 1 + prefix_len continues_name bytes)) (cond (nat_eq b 35) (of_kind Hash (hash_len bytes)) (cond (nat_eq b 36) (of_kind Variable (variable_len bytes)) (cond (nat_eq b 47) (of_kind Comment (comment_len (b ∷ bytes))) (cond (is_ascii_digit b || nat_eq b 45 || nat_eq b 46) (number_or_point b (number_len (b ∷ bytes))) (cond (is_mark b) (Some (Mark b, 1)) None))))))
     on_name true blank is = name-judged b bytes is
     on_name false blank is = on_hash (nat_eq b 35) blank is refl
 
     on_blank : (blank : Bool) → is_blank b ≡ blank
-        → Judges (b ∷ bytes) (cond blank (Some (Space, 1 + prefix_len is_blank bytes)) (cond (begins_name b) (Some (Name, 1 + prefix_len is_name_byte bytes)) (cond (nat_eq b 35) (of_kind Hash (hash_len bytes)) (cond (nat_eq b 36) (of_kind Variable (variable_len bytes)) (cond (nat_eq b 47) (of_kind Comment (comment_len (b ∷ bytes))) (cond (is_ascii_digit b || nat_eq b 45 || nat_eq b 46) (number_or_point b (number_len (b ∷ bytes))) (cond (is_mark b) (Some (Mark b, 1)) None)))))))
+        → Judges (b ∷ bytes) (cond blank (Some (Space, 1 + prefix_len is_blank bytes)) (cond (begins_name b) (Some (Name, 1 + prefix_len continues_name bytes)) (cond (nat_eq b 35) (of_kind Hash (hash_len bytes)) (cond (nat_eq b 36) (of_kind Variable (variable_len bytes)) (cond (nat_eq b 47) (of_kind Comment (comment_len (b ∷ bytes))) (cond (is_ascii_digit b || nat_eq b 45 || nat_eq b 46) (number_or_point b (number_len (b ∷ bytes))) (cond (is_mark b) (Some (Mark b, 1)) None)))))))
     on_blank true is = space-judged b bytes is
     on_blank false is = on_name (begins_name b) is refl
 

@@ -1,14 +1,15 @@
 -- Bytes are a token of one kind at most.
 use Rattle.std.proofs.Common.{◌≡◌, inl, inr, ℕ, ◌<◌, ◌≤◌, Bool, true, false, not, cond, ◌&&◌, ◌||◌, nat_eq, nat_le, List, [], ◌∷◌, refl, ap, sym, ◌∙◌, arith}
-use Rattle.std.proofs.lemmas.Bool.{eqb-true}
+use Rattle.std.proofs.lemmas.Bool.{and_parts, eqb-true, not-true, or_cases}
 use Rattle.std.proofs.lemmas.Bool.Decides.{nat_tests}
 use Rattle.std.specs.Char.{is_ascii_digit}
 use Rattle.std.specs.List.{list_all, list_any}
-use Rattle.tx_lex.specs.Bytes.{is_blank, begins_name, is_name_byte, is_mark}
+use Rattle.tx_text.specs.Name.{begins_name, continues_name}
+use Rattle.tx_lex.specs.Bytes.{is_blank, is_mark}
 use Rattle.tx_lex.specs.Tokens.{is_none, is_space, is_comment, is_name, is_hash, is_variable, is_number, closes, is_mark_of, is_token}
 use Rattle.tx_lex.specs.declared.token.TokenKind.{TokenKind}
 use Rattle.tx_lex.specs.declared.token.TokenKind.TheVariants.{Space, Comment, Name, Hash, Variable, Number, Mark}
-use Rattle.tx_lex.proofs.FirstBytes.{First, first-blank, first-name, first-hash, first-dollar, first-slash, or-cases, and-both, above-not}
+use Rattle.tx_lex.proofs.FirstBytes.{First, first-blank, first-name, first-hash, first-dollar, first-slash, above-not}
 use Rattle.tx_lex.proofs.LongestTokens.{refuses-numbers}
 
 -- the kind of bytes that are a token
@@ -34,14 +35,10 @@ chosen b bytes blank name hash dollar slash mark pb pn ph pd ps pm =
 
 any-passes : (q : ℕ → Bool) (b : ℕ) (ms : List ℕ) → list_any (nat_eq b) ms ≡ true → list_all q ms ≡ true → q b ≡ true
 any-passes q b [] is all = absurd (let clash : false ≡ true = is in cc)
-any-passes q b (m ∷ ms) is all = elim (or-cases (nat_eq b m) (list_any (nat_eq b) ms) is) [
-  | inl at ↦ ap q (eqb-true b m at) ∙ (and-both (q m) (list_all q ms) all).0
-  | inr later ↦ any-passes q b ms later (and-both (q m) (list_all q ms) all).1
+any-passes q b (m ∷ ms) is all = elim (or_cases (nat_eq b m) (list_any (nat_eq b) ms) is) [
+  | inl at ↦ ap q (eqb-true b m at) ∙ (and_parts (q m) (list_all q ms) all).0
+  | inr later ↦ any-passes q b ms later (and_parts (q m) (list_all q ms) all).1
 ]
-
-not-true : (t : Bool) → not t ≡ true → t ≡ false
-not-true true is = let clash : false ≡ true = is in cc
-not-true false is = refl
 
 mark-not : (q : ℕ → Bool) (b : ℕ) → list_all (λ m. not (q m)) (58 ∷ 59 ∷ 44 ∷ 46 ∷ 62 ∷ 42 ∷ 123 ∷ 125 ∷ 40 ∷ 41 ∷ 33 ∷ []) ≡ true → is_mark b ≡ true → q b ≡ false
 mark-not q b none is = not-true (q b) (any-passes (λ m. not (q m)) b (58 ∷ 59 ∷ 44 ∷ 46 ∷ 62 ∷ 42 ∷ 123 ∷ 125 ∷ 40 ∷ 41 ∷ 33 ∷ []) is none)
@@ -58,33 +55,33 @@ no-mark q b none passes = of (is_mark b) refl
 space-kind : (bytes : List ℕ) → is_space bytes ≡ true → Space ≡ kind_of bytes
 space-kind [] is = absurd (let clash : false ≡ true = is in cc)
 space-kind (b ∷ bytes) is =
-    let first : First b true false false false false false = first-blank b (and-both (is_blank b) (list_all is_blank bytes) is).0 in
+    let first : First b true false false false false false = first-blank b (and_parts (is_blank b) (list_all is_blank bytes) is).0 in
     sym (chosen b bytes true false false false false (is_mark b && is_none bytes) first.is_blank_is first.is_name_is first.is_hash_is first.is_dollar_is first.is_slash_is refl)
 
 name-kind : (bytes : List ℕ) → is_name bytes ≡ true → Name ≡ kind_of bytes
 name-kind [] is = absurd (let clash : false ≡ true = is in cc)
 name-kind (b ∷ bytes) is =
-    let first : First b false true false false false false = first-name b (and-both (begins_name b) (list_all is_name_byte bytes) is).0 in
+    let first : First b false true false false false false = first-name b (and_parts (begins_name b) (list_all continues_name bytes) is).0 in
     sym (chosen b bytes false true false false false (is_mark b && is_none bytes) first.is_blank_is first.is_name_is first.is_hash_is first.is_dollar_is first.is_slash_is refl)
 
 hash-kind : (bytes : List ℕ) → is_hash bytes ≡ true → Hash ≡ kind_of bytes
 hash-kind [] is = absurd (let clash : false ≡ true = is in cc)
 hash-kind (b ∷ []) is = absurd (let clash : false ≡ true = is in cc)
 hash-kind (b ∷ x ∷ bytes) is =
-    let first : First b false false true false false false = first-hash b (and-both (nat_eq b 35) (is_name_byte x && list_all is_name_byte bytes) is).0 in
+    let first : First b false false true false false false = first-hash b (and_parts (nat_eq b 35) (continues_name x && list_all continues_name bytes) is).0 in
     sym (chosen b (x ∷ bytes) false false true false false (is_mark b && false) first.is_blank_is first.is_name_is first.is_hash_is first.is_dollar_is first.is_slash_is refl)
 
 variable-kind : (bytes : List ℕ) → is_variable bytes ≡ true → Variable ≡ kind_of bytes
 variable-kind [] is = absurd (let clash : false ≡ true = is in cc)
 variable-kind (b ∷ bytes) is =
-    let first : First b false false false true false false = first-dollar b (and-both (nat_eq b 36) (is_name bytes) is).0 in
+    let first : First b false false false true false false = first-dollar b (and_parts (nat_eq b 36) (is_name bytes) is).0 in
     sym (chosen b bytes false false false true false (is_mark b && is_none bytes) first.is_blank_is first.is_name_is first.is_hash_is first.is_dollar_is first.is_slash_is refl)
 
 comment-kind : (bytes : List ℕ) → is_comment bytes ≡ true → Comment ≡ kind_of bytes
 comment-kind [] is = absurd (let clash : false ≡ true = is in cc)
 comment-kind (b ∷ []) is = absurd (let clash : false ≡ true = is in cc)
 comment-kind (b ∷ x ∷ bytes) is =
-    let first : First b false false false false true false = first-slash b (and-both (nat_eq b 47) (nat_eq x 42 && closes bytes) is).0 in
+    let first : First b false false false false true false = first-slash b (and_parts (nat_eq b 47) (nat_eq x 42 && closes bytes) is).0 in
     sym (chosen b (x ∷ bytes) false false false false true (is_mark b && false) first.is_blank_is first.is_name_is first.is_hash_is first.is_dollar_is first.is_slash_is refl)
 
 and-false : (t : Bool) → (t && false) ≡ false
@@ -95,7 +92,7 @@ mark-kind : (m : ℕ) (bytes : List ℕ) → is_mark_of m bytes ≡ true → Mar
 mark-kind m [] is = absurd (let clash : false ≡ true = is in cc)
 mark-kind m (b ∷ x ∷ bytes) is = absurd (let clash : false ≡ true = is in cc)
 mark-kind m (b ∷ []) is =
-    let both : (nat_eq b m ≡ true) × (is_mark b ≡ true) = and-both (nat_eq b m) (is_mark b) is in
+    let both : (nat_eq b m ≡ true) × (is_mark b ≡ true) = and_parts (nat_eq b m) (is_mark b) is in
     ap Mark (sym (eqb-true b m both.0))
     ∙ sym (chosen b [] false false false false false true
     (mark-not is_blank b refl both.1) (mark-not begins_name b refl both.1) (mark-not (λ n. nat_eq n 35) b refl both.1)
@@ -106,7 +103,7 @@ digit-first : (b : ℕ) → is_ascii_digit b ≡ true → (is_blank b ≡ false)
 digit-first b is = (blank, name, above-not b 35 (omega (arith, low)), above-not b 36 (omega (arith, low)), above-not b 47 (omega (arith, low)))
   where
     bounds : (nat_le 48 b ≡ true) × (nat_le b 57 ≡ true)
-    bounds = and-both (nat_le 48 b) (nat_le b 57) is
+    bounds = and_parts (nat_le 48 b) (nat_le b 57) is
 
     at_least : nat_le 48 b ≡ true → 48 ≤ b
     at_least t = grind (arith, nat_tests)
@@ -151,8 +148,8 @@ point-alone b (x ∷ bytes) at is = and-false (is_mark b)
 
 number-kind : (bytes : List ℕ) → is_number bytes ≡ true → Number ≡ kind_of bytes
 number-kind [] is = absurd (let clash : false ≡ true = is in cc)
-number-kind (b ∷ bytes) is = elim (or-cases (is_ascii_digit b || nat_eq b 45) (nat_eq b 46) (number-first b bytes is)) [
-  | inl left ↦ elim (or-cases (is_ascii_digit b) (nat_eq b 45) left) [
+number-kind (b ∷ bytes) is = elim (or_cases (is_ascii_digit b || nat_eq b 45) (nat_eq b 46) (number-first b bytes is)) [
+  | inl left ↦ elim (or_cases (is_ascii_digit b) (nat_eq b 45) left) [
     | inl digit ↦ (let first : (is_blank b ≡ false) × (begins_name b ≡ false) × (nat_eq b 35 ≡ false) × (nat_eq b 36 ≡ false) × (nat_eq b 47 ≡ false) = digit-first b digit in
         sym (chosen b bytes false false false false false false first.0 first.1 first.2 first.3 first.4 (ap (λ t. t && is_none bytes) (no-mark is_ascii_digit b refl digit))))
     | inr sign ↦ at 45 (eqb-true b 45 sign) refl refl refl refl refl (ap (λ t. t && is_none bytes) (ap is_mark (eqb-true b 45 sign)))

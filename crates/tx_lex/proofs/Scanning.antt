@@ -2,7 +2,7 @@
 use Rattle.std.proofs.Common.{◌≡◌, ◌⊎◌, inl, inr, ℕ, ◌-◌, ◌<◌, ◌≤◌, true, false, not, List, [], ◌∷◌, ◌++◌, length, take, drop, Option, None, Some, Result, Ok, Err, refl, ap, sym, ◌∙◌, subst, arith, length-drop}
 use Rattle.std.proofs.lemmas.List.{append-nil}
 use Rattle.tx_read.specs.Reading.{behind_items, Shrinks, Items, StopsAt, IsFound}
-use Rattle.tx_read.proofs.ManyItems.{many-item, many-end, many-fault, many-found, many-again}
+use Rattle.tx_read.proofs.lemmas.ManyItems.{many-item, many-end, many-fault, many-found, many-again}
 use Rattle.tx_lex.specs.Tokens.{is_none, is_token, IsLongestToken}
 use Rattle.tx_lex.specs.Lexing.{Spot, spot_at, start_of, spot_behind, token_of, fault_of, fault_at, wrong_in, longest_token, sound_token, judged, token_at, is_more, left, tokens_from, fault_at_end, of_run, lexed}
 use Rattle.tx_lex.specs.IsLexed.{IsTokenAt, IsWrongToken, IsNoToken, EndsWith, IsLexed, LexedIsExact}

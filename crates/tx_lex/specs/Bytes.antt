@@ -1,19 +1,10 @@
--- Classes of bytes. Letters and digits are ASCII.
+-- Classes of bytes.
 use Rattle.std.specs.Prelude.{ℕ, Bool, ◌||◌, nat_eq, [], ◌∷◌}
-use Rattle.std.specs.Char.{is_ascii_alphabetic, is_ascii_digit}
 use Rattle.std.specs.List.{list_any}
 
 -- a blank, a tab, a line feed or a carriage return
 abbrev pub is_blank : ℕ → Bool
 is_blank b = nat_eq b 32 || nat_eq b 9 || nat_eq b 10 || nat_eq b 13
-
--- a letter or `_`
-abbrev pub begins_name : ℕ → Bool
-begins_name b = is_ascii_alphabetic b || nat_eq b 95
-
--- a letter, a digit, `_` or `-`
-abbrev pub is_name_byte : ℕ → Bool
-is_name_byte b = is_ascii_alphabetic b || is_ascii_digit b || nat_eq b 95 || nat_eq b 45
 
 -- one of `:` `;` `,` `.` `>` `*` `{` `}` `(` `)` `!`
 abbrev pub is_mark : ℕ → Bool

@@ -4,8 +4,10 @@ use Rattle.std.specs.Char.{is_ascii_alphabetic, is_ascii_digit}
 use Rattle.std.specs.List.{prefix_len}
 use Rattle.std.specs.Str.Lossy.{utf8_valid_len}
 use Rattle.tx_read.specs.Reading.{Run, many}
+use Rattle.tx_lex.specs.Digits.{most_whole, most_decimals}
 use Rattle.tx_lex.specs.Tokens.{is_none}
-use Rattle.tx_lex.specs.Bytes.{is_blank, begins_name, is_name_byte, is_mark}
+use Rattle.tx_text.specs.Name.{begins_name, continues_name}
+use Rattle.tx_lex.specs.Bytes.{is_blank, is_mark}
 use Rattle.tx_lex.specs.declared.token.TokenKind.{TokenKind}
 use Rattle.tx_lex.specs.declared.token.TokenKind.TheVariants.{Space, Comment, Name, Hash, Variable, Number, Mark}
 use Rattle.tx_lex.specs.declared.token.Token.{Token}
@@ -75,12 +77,12 @@ comment_len bytes = if opens_comment bytes then option_map (λ n. n + 2) (close_
 -- behind a `#`
 abbrev pub hash_len : List ℕ → Option ℕ
 hash_len [] = None
-hash_len (b ∷ bytes) = if is_name_byte b then Some (2 + prefix_len is_name_byte bytes) else None
+hash_len (b ∷ bytes) = if continues_name b then Some (2 + prefix_len continues_name bytes) else None
 
 -- behind a `$`
 abbrev pub variable_len : List ℕ → Option ℕ
 variable_len [] = None
-variable_len (b ∷ bytes) = if begins_name b then Some (2 + prefix_len is_name_byte bytes) else None
+variable_len (b ∷ bytes) = if begins_name b then Some (2 + prefix_len continues_name bytes) else None
 
 -- ---- one token
 
@@ -98,7 +100,7 @@ unfoldable pub longest_token : List ℕ → Option (TokenKind × ℕ)
 longest_token [] = None
 longest_token (b ∷ bytes) =
     if is_blank b then Some (Space, 1 + prefix_len is_blank bytes)
-    else if begins_name b then Some (Name, 1 + prefix_len is_name_byte bytes)
+    else if begins_name b then Some (Name, 1 + prefix_len continues_name bytes)
     else if nat_eq b 35 then of_kind Hash (hash_len bytes)
     else if nat_eq b 36 then of_kind Variable (variable_len bytes)
     else if nat_eq b 47 then of_kind Comment (comment_len (b ∷ bytes))
@@ -113,11 +115,11 @@ abbrev pub decimals_of : List ℕ → ℕ
 decimals_of [] = 0
 decimals_of (b ∷ bytes) = if nat_eq b 46 then prefix_len is_ascii_digit bytes else 0
 
--- more than 9 digits before the point, or more than 18 behind it
+-- more digits before the point than are allowed, or behind it
 abbrev pub has_many_digits : List ℕ → Bool
 has_many_digits bytes =
     let digits = prefix_len is_ascii_digit bytes in
-    nat_lt 9 digits || nat_lt 18 (decimals_of (drop digits bytes))
+    nat_lt most_whole digits || nat_lt most_decimals (decimals_of (drop digits bytes))
 
 abbrev pub behind_sign : List ℕ → List ℕ
 behind_sign [] = []

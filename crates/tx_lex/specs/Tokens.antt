@@ -2,7 +2,8 @@
 use Rattle.std.specs.Prelude.{◌≡◌, ◌<◌, ◌≤◌, ℕ, Bool, true, false, ◌&&◌, nat_eq, List, [], ◌∷◌, length, take, if◌then◌else◌}
 use Rattle.std.specs.Char.{is_ascii_alphabetic, is_ascii_digit}
 use Rattle.std.specs.List.{list_all}
-use Rattle.tx_lex.specs.Bytes.{is_blank, begins_name, is_name_byte, is_mark}
+use Rattle.tx_text.specs.Name.{begins_name, continues_name}
+use Rattle.tx_lex.specs.Bytes.{is_blank, is_mark}
 use Rattle.tx_lex.specs.declared.token.TokenKind.{TokenKind}
 use Rattle.tx_lex.specs.declared.token.TokenKind.TheVariants.{Space, Comment, Name, Hash, Variable, Number, Mark}
 
@@ -33,13 +34,13 @@ is_comment (a ∷ b ∷ bytes) = nat_eq a 47 && (nat_eq b 42 && closes bytes)
 -- a letter or `_`, then letters, digits, `_`, `-`
 abbrev pub is_name : List ℕ → Bool
 is_name [] = false
-is_name (b ∷ bytes) = begins_name b && list_all is_name_byte bytes
+is_name (b ∷ bytes) = begins_name b && list_all continues_name bytes
 
 -- `#`, then one or more letters, digits, `_`, `-`
 abbrev pub is_hash : List ℕ → Bool
 is_hash [] = false
 is_hash (a ∷ []) = false
-is_hash (a ∷ b ∷ bytes) = nat_eq a 35 && (is_name_byte b && list_all is_name_byte bytes)
+is_hash (a ∷ b ∷ bytes) = nat_eq a 35 && (continues_name b && list_all continues_name bytes)
 
 -- `$`, then a name
 abbrev pub is_variable : List ℕ → Bool

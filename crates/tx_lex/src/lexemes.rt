@@ -1,8 +1,10 @@
 //! Tokens as readers of grammars see them.
-ghost use Rattle.std.specs.Prelude.{◌≡◌, take, drop};
-ghost use Rattle.tx_lex.specs.Lexemes.{token_bytes, IsNth, is_space, is_blank, is_name_token, is_hash, is_variable, is_number, is_mark};
+ghost use Rattle.std.specs.Prelude.{◌≡◌, ◌≤◌, ℕ, List};
+ghost use Rattle.tx_lex.specs.Blanks.{past_blanks};
+ghost use Rattle.tx_lex.specs.Lexemes.{lexemes_from, token_bytes, IsNth, is_space, is_blank, is_name_token, is_hash, is_variable, is_number, is_mark};
 
 use crate::token::{Token, TokenKind};
+use tx_read::{behind, front};
 
 impl TokenKind {
     /// Whether this is a space.
@@ -58,30 +60,6 @@ impl TokenKind {
     }
 }
 
-/// What stands from a number on; nothing where there is no more.
-pub fn behind<T>(items: &[T], count: usize) -> &[T]
-    ensures { result.now ≡ drop count items.now }
-{
-    if count < items.len() {
-        let (_, rest) = items.split_at(count);
-        rest
-    } else {
-        &[]
-    }
-}
-
-/// The first ones, so many or all.
-fn front(bytes: &[u8], count: usize) -> &[u8]
-    ensures { result.now ≡ take count bytes.now }
-{
-    if count < bytes.len() {
-        let (front, _) = bytes.split_at(count);
-        front
-    } else {
-        bytes
-    }
-}
-
 /// The bytes of a token of a text, as far as they are there.
 pub fn token_bytes(text: &[u8], token: Token) -> &[u8]
     ensures { result.now ≡ token_bytes text.now token }
@@ -99,4 +77,20 @@ pub fn token_at(tokens: &[Token], at: usize) -> Option<Token>
     } else {
         None
     }
+}
+
+/// The number of the token behind spaces and comments.
+pub fn past_blanks(tokens: &[Token], at: usize) -> usize
+    ensures gives { (text : List ℕ) → lexemes_from text tokens.now result ≡
+        past_blanks (lexemes_from text tokens.now at) }
+    ensures behind { at ≤ result }
+{
+    let mut behind = at;
+    while let Some(first) = token_at(tokens, behind) {
+        if !first.kind.is_blank() {
+            return behind;
+        }
+        behind += 1;
+    }
+    behind
 }

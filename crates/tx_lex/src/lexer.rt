@@ -1,15 +1,17 @@
 //! Tokens from the left.
 ghost use Rattle.std.specs.Prelude.{◌≡◌, ◌<◌, ◌≤◌, ◌^◌, ◌+◌, length, drop, IfOk, IfSome, Some, None, option_map, if◌then◌else◌};
-ghost use Rattle.tx_lex.specs.Lexing.{close_len, close_behind, opens_comment, comment_len, hash_len, variable_len, of_kind, number_or_point, longest_token, wrong_in, wrong_here, if_comment, invalid_place, token_at, lexed};
+ghost use Rattle.tx_lex.specs.Lexing.{close_len, close_behind, opens_comment, comment_len, hash_len, variable_len, of_kind, number_or_point, longest_token, wrong_in, wrong_here, if_comment, invalid_place, spot_at, token_at, lexed};
 ghost use Rattle.tx_lex.specs.Bytes.{is_mark};
 ghost use Rattle.tx_lex.specs.declared.token.TokenKind.TheVariants.{Mark};
-ghost use Rattle.tx_lex.specs.Reads.{GivesToken, GivesTokens};
+ghost use Rattle.tx_lex.specs.Answers.{with_spot, all_tokens, told};
+ghost use Rattle.tx_read.specs.Answer.{Gives, GivesAtOnce};
 
-use crate::bytes::{begins_name, blanks, is_blank, is_mark, is_name_byte, name_bytes};
+use crate::bytes::{blanks, is_blank, is_mark, name_bytes};
 use crate::number::{has_many_digits, number_len};
 use crate::token::{Fault, LexFault, LexKind, Scanned, Token, TokenKind, TokenList, Wrong};
 use std::alloc::{AllocError, Global};
 use std::str;
+use tx_text::{begins_name, continues_name};
 
 /// Up to and with the first `*/`, where there is one.
 fn close_len(bytes: &[u8]) -> Option<usize>
@@ -56,7 +58,7 @@ fn hash_len(bytes: &[u8]) -> Option<usize>
     ensures within { IfSome result (λ n. n ≤ length bytes.now + 1) }
 {
     match bytes {
-        [first, rest @ ..] if is_name_byte(*first) => Some(2 + name_bytes(rest)),
+        [first, rest @ ..] if continues_name(*first) => Some(2 + name_bytes(rest)),
         _ => None,
     }
 }
@@ -174,7 +176,7 @@ fn wrong_here(bytes: &[u8]) -> LexKind
 fn token_at(bytes: &[u8], place: usize) -> Result<Token, Fault>
     requires within { place ≤ length bytes.now }
     requires short { length bytes.now < 2 ^ 32 }
-    ensures token { GivesToken bytes.now place result }
+    ensures token { GivesAtOnce (with_spot bytes.now) (λ fault. fault) result (token_at (spot_at bytes.now place)) }
     ensures goes_on { IfOk result (λ token. (place < token.to) × (token.to ≤ length bytes.now)) }
 {
     let (_, rest) = bytes.split_at(place);
@@ -214,7 +216,9 @@ fn if_comment(token: Token) -> Option<Token>
 /// The tokens of bytes up to the first fault, and that fault. The bytes may be no UTF-8.
 pub fn scan(alloc: Global, bytes: &[u8]) -> Result<Scanned, AllocError>
     requires { length bytes.now < 2 ^ 32 }
-    ensures { IfOk result (λ scanned. scanned ≡ lexed bytes.now) }
+    ensures read { IfOk result (λ scanned. scanned ≡ lexed bytes.now) }
+    // Each token has a byte.
+    ensures few { IfOk result (λ scanned. length scanned.tokens ≤ length bytes.now) }
 {
     let mut tokens = Vec::new(alloc);
     let mut place = 0;
@@ -243,7 +247,7 @@ pub fn scan(alloc: Global, bytes: &[u8]) -> Result<Scanned, AllocError>
 /// many digits.
 pub fn tokens(alloc: Global, text: &str) -> Result<Vec<Token>, LexFault>
     requires { length text.now < 2 ^ 32 }
-    ensures { GivesTokens result (lexed text.now) }
+    ensures { Gives (λ found. found.items) told result (all_tokens (lexed text.now)) }
 {
     let scanned = scan(alloc, text.as_bytes())?;
     match scanned.fault {

@@ -13,6 +13,7 @@ mod number;
 mod tests;
 mod token;
 
-pub use lexemes::{behind, token_at, token_bytes};
+pub use lexemes::{past_blanks, token_at, token_bytes};
 pub use lexer::{scan, tokens};
+pub use number::{MOST_DECIMALS, MOST_WHOLE};
 pub use token::{Fault, LexFault, LexKind, Scanned, Token, TokenKind, TokenList};

@@ -2,12 +2,14 @@
 ghost use Rattle.std.specs.Prelude.{◌≡◌, ◌≤◌, length, IfSome};
 ghost use Rattle.tx_lex.specs.Lexing.{unit_len, decimals_len, behind_point_len, behind_whole_len, whole_len, unsigned_len, number_len, decimals_of, has_many_digits, behind_sign};
 
-use crate::bytes::{digits, letters};
+use crate::bytes::letters;
+use tx_read::digit_count;
 
-// The most digits before a point, and behind it.
-const MOST_WHOLE: usize = 9;
+/// The most digits of a number before its point.
+pub const MOST_WHOLE: usize = 9;
 
-const MOST_DECIMALS: usize = 18;
+/// The most digits of a number behind its point.
+pub const MOST_DECIMALS: usize = 18;
 
 fn unit_len(bytes: &[u8]) -> usize
     ensures len { result ≡ unit_len bytes.now }
@@ -25,7 +27,7 @@ fn decimals_len(bytes: &[u8]) -> usize
     ensures len { result ≡ decimals_len bytes.now }
     ensures within { result ≤ length bytes.now }
 {
-    let digits = digits(bytes);
+    let digits = digit_count(bytes);
     let (_, rest) = bytes.split_at(digits);
     digits + unit_len(rest)
 }
@@ -60,7 +62,7 @@ fn whole_len(bytes: &[u8]) -> usize
     ensures len { result ≡ whole_len bytes.now }
     ensures within { result ≤ length bytes.now }
 {
-    let digits = digits(bytes);
+    let digits = digit_count(bytes);
     let (_, rest) = bytes.split_at(digits);
     digits + behind_whole_len(rest)
 }
@@ -99,7 +101,7 @@ fn decimals_of(bytes: &[u8]) -> usize
     ensures { result ≡ decimals_of bytes.now }
 {
     match bytes {
-        [b'.', rest @ ..] => digits(rest),
+        [b'.', rest @ ..] => digit_count(rest),
         _ => 0,
     }
 }
@@ -118,7 +120,7 @@ pub fn has_many_digits(number: &[u8]) -> bool
     ensures { result ≡ has_many_digits (behind_sign number.now) }
 {
     let unsigned = behind_sign(number);
-    let digits = digits(unsigned);
+    let digits = digit_count(unsigned);
     let (_, rest) = unsigned.split_at(digits);
     digits > MOST_WHOLE || decimals_of(rest) > MOST_DECIMALS
 }

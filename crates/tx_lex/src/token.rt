@@ -2,7 +2,7 @@
 ghost use Rattle.std.specs.Prelude.{◌≡◌};
 
 use std::alloc::AllocError;
-use std::marker::Model;
+use tx_text::Items;
 
 /// What a token is. Letters and digits are ASCII.
 #[derive(Clone, Copy, Debug, PartialEq, Eq)]
@@ -80,42 +80,7 @@ impl From<AllocError> for LexFault {
 }
 
 /// Tokens in their order, seen as a list.
-#[derive(Debug, Drop)]
-pub struct TokenList {
-    tokens: Vec<Token>,
-}
-
-impl Model for TokenList {
-    ghost use Rattle.std.specs.Prelude.{List};
-    ghost use Rattle.tx_lex.specs.declared.token.Token.{Token};
-
-    ghost Value = { List Token };
-
-    ghost view = { λ t. t.tokens.items };
-}
-
-impl TokenList {
-    /// These tokens.
-    pub fn of(tokens: Vec<Token>) -> TokenList
-        ensures { result ≡ tokens.items }
-    {
-        TokenList { tokens }
-    }
-
-    /// The tokens, the first one first.
-    pub fn as_slice(&self) -> &[Token]
-        ensures { result.now ≡ self.now }
-    {
-        self.tokens.as_slice()
-    }
-
-    /// The tokens, without a copy.
-    pub fn into_vec(self) -> Vec<Token>
-        ensures { result.items ≡ self }
-    {
-        self.tokens
-    }
-}
+pub type TokenList = Items<Token>;
 
 /// What bytes are read as.
 #[derive(Debug, Drop)]

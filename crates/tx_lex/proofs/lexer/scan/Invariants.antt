@@ -7,6 +7,7 @@ use Rattle.tx_lex.proofs.lexer.scan.Given as goal
 abbrev pub invariant-loop-place : goal.invariant-loop-place
 invariant-loop-place l = record {
   within : l.place ≤ length l.bytes;
+  few : length l.tokens.items ≤ l.place;
   read : of_run (behind_items l.tokens.items (tokens_from (spot_at l.bytes l.place))) ≡ lexed l.bytes;
 }
 
