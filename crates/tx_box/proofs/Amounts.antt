@@ -20,7 +20,8 @@ use Rattle.tx_box.specs.declared.parts.Limits.{Limits}
 use Rattle.tx_box.specs.declared.parts.Part.{Part}
 use Rattle.tx_box.specs.declared.parts.Part.TheVariants.{Settled, Growing}
 use Rattle.tx_box.specs.Item.{NotNegative, IsSized, IsLimit}
-use Rattle.tx_box.specs.Sizes.{cells, side, hundredths, amount_in, with_gutter, outer_in, outer, limit, limits_of, clamp, greatest}
+use Rattle.tx_geom.specs.Along.{side}
+use Rattle.tx_box.specs.Sizes.{cells, hundredths, amount_in, with_gutter, outer_in, outer, limit, limits_of, clamp, greatest}
 use Rattle.tx_box.specs.Axis.{same, part_in, part_of, shares, above_zero, above_zero_in, total_from, unit_of, part_round, round, round_with, next_round}
 use Rattle.tx_box.specs.Laws.{HasFractions}
 use Rattle.tx_box.proofs.Options.{and_then_some, map_some, bool_cases, same_some, same_first, same_second}

@@ -19,7 +19,8 @@ use Rattle.tx_box.specs.declared.sizes.Bases.{Bases}
 use Rattle.tx_box.specs.declared.parts.Limits.{Limits}
 use Rattle.tx_box.specs.declared.parts.Part.{Part}
 use Rattle.tx_box.specs.declared.parts.Part.TheVariants.{Settled, Growing}
-use Rattle.tx_box.specs.Sizes.{cells, side, hundredths, amount_in, with_gutter, outer_in, outer, limit, limits_of, at_most, at_least, clamp, across_in, across}
+use Rattle.tx_geom.specs.Along.{side}
+use Rattle.tx_box.specs.Sizes.{cells, hundredths, amount_in, with_gutter, outer_in, outer, limit, limits_of, at_most, at_least, clamp, across_in, across}
 use Rattle.tx_box.specs.Axis.{each, bases, part_in, part_of}
 use Rattle.tx_box.specs.Ordinary.{IsShortDecimal, IsOrdinarySize, IsOrdinaryItem, OrdinaryBox}
 use Rattle.tx_box.proofs.Multiples.{Facts, IsOver, over_more, over_wider, over_cells, Defined, add_defined, less_defined, mul_defined, div_defined}

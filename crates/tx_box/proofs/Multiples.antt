@@ -6,10 +6,10 @@ use Rattle.std.proofs.Math.Nat.{mul-le-mul, mul-le-mul_right}
 use borrow.Author.Differences.{lt-false}
 use Rattle.tx_frac.specs.Ratio.{Ratio, IsRatio, negated, sum_of, product_of, quotient_of, is_less, add, sub, mul, div, less}
 use Rattle.tx_frac.specs.Laws.{DefinedInRange}
-use Rattle.tx_frac.proofs.Whole.{*ℤ_assoc, *ℤ_right_comm}
+use Rattle.tx_frac.proofs.lemmas.Whole.{*ℤ_assoc, *ℤ_right_comm, cancel_pos}
 use Rattle.tx_box.specs.Sizes.{cells}
 use Rattle.tx_box.specs.Axis.{above_zero, above_zero_in}
-use Rattle.tx_box.proofs.Numbers.{cancel, same_number}
+use Rattle.tx_box.proofs.Numbers.{same_number}
 use Rattle.tx_box.proofs.Amounts.{Known}
 
 -- what is known of fractions, and where operations on them are defined
@@ -48,7 +48,7 @@ pub narrower : (k j : ℕ) (n : ℤ) (x : Ratio) → 0 < j → IsRatio (n *ℤ p
 narrower k j n x hj h =
     record {
       same =
-          cancel (x.num *ℤ pos k) (n *ℤ pos x.den) j hj
+          cancel_pos (x.num *ℤ pos k) (n *ℤ pos x.den) j hj
           (*ℤ_assoc x.num (pos k) (pos j) ∙ (h.same ∙ *ℤ_right_comm n (pos j) (pos x.den)));
       lowest_terms = h.lowest_terms;
     }

@@ -1,9 +1,9 @@
 -- Sizes and shares as whole numbers over one denominator.
-use Rattle.std.proofs.Common.{◌≡◌, ℕ, zero, suc, ◌*◌, ◌<◌, List, [], ◌∷◌, map, refl, sym, ap, subst, arith, ℤ, pos, negsuc, Some}
+use Rattle.std.proofs.Common.{◌≡◌, ℕ, ◌*◌, ◌<◌, List, [], ◌∷◌, map, refl, sym, subst, arith, ℤ, pos, Some}
 use Rattle.std.specs.Prelude.{◌+ℤ◌, ◌-ℤ◌, ◌*ℤ◌, neg_ℤ}
 use Rattle.std.specs.List.{AllByRecursion as Every, AllZip}
 use Rattle.std.proofs.lemmas.Int.{ints}
-use Rattle.std.proofs.Math.Nat.{mul_comm, mul-pos, eq_of_mul-eq-mul_right}
+use Rattle.std.proofs.Math.Nat.{mul_comm, mul-pos}
 use Rattle.tx_frac.specs.Ratio.{Ratio, IsLowest, IsRatio, negated, sum_of, add, sub}
 use Rattle.tx_box.specs.declared.parts.Part.{Part}
 use Rattle.tx_box.specs.declared.parts.Part.TheVariants.{Settled, Growing}
@@ -11,15 +11,6 @@ use Rattle.tx_box.specs.Sizes.{cells}
 use Rattle.tx_box.specs.Axis.{settled_sizes, shares, less_each, total_from}
 use Rattle.tx_box.proofs.Options.{and_then_some, same_some}
 use Rattle.tx_box.proofs.Amounts.{Known, IsAmountPart, sum_is, difference_is}
-
-pub cancel : (m n : ℤ) (k : ℕ) → 0 < k → m *ℤ pos k ≡ n *ℤ pos k → m ≡ n
-cancel (pos a) (pos b) k h e = ap pos (eq_of_mul-eq-mul_right k h a b (omega (arith, ints)))
-cancel (pos a) (negsuc b) (suc k) h e = absurd (omega (arith, ints))
-cancel (pos a) (negsuc b) zero h e = absurd (omega arith)
-cancel (negsuc a) (pos b) (suc k) h e = absurd (omega (arith, ints))
-cancel (negsuc a) (pos b) zero h e = absurd (omega arith)
-cancel (negsuc a) (negsuc b) k h e =
-    ap negsuc (let f : suc a ≡ suc b = eq_of_mul-eq-mul_right k h (suc a) (suc b) (omega (arith, ints)) in omega arith)
 
 -- the fraction x over k is also that over an equal number
 pub same_number : (k : ℕ) (m n : ℤ) (x : Ratio) → m ≡ n → IsRatio m k x → IsRatio n k x

@@ -17,7 +17,8 @@ use Rattle.tx_box.specs.declared.items.Span.{Span}
 use Rattle.tx_box.specs.declared.parts.Limits.{Limits}
 use Rattle.tx_box.specs.declared.parts.Part.{Part}
 use Rattle.tx_box.specs.declared.parts.Part.TheVariants.{Settled, Growing}
-use Rattle.tx_box.specs.Sizes.{cells, side, clamp}
+use Rattle.tx_geom.specs.Along.{side}
+use Rattle.tx_box.specs.Sizes.{cells, clamp}
 use Rattle.tx_box.specs.Axis.{each, same, settled_sizes, shares, growing, less_each, room, above_zero, total_from, unit_of, part_round, behind, round, round_with, next_round, last_round, wish, final_size, final_sizes, span, placed, spans_from, axis_parts, last_of, sizes_of, axis_sizes, axis_spans}
 use Rattle.tx_box.specs.Ordinary.{IsCells, OrdinaryItems, OrdinaryAxis}
 use Rattle.tx_box.proofs.Options.{bool_cases}

@@ -19,7 +19,8 @@ use Rattle.tx_box.specs.declared.sizes.Bases.{Bases}
 use Rattle.tx_box.specs.declared.parts.Limits.{Limits}
 use Rattle.tx_box.specs.declared.parts.Part.{Part}
 use Rattle.tx_box.specs.declared.parts.Part.TheVariants.{Settled, Growing}
-use Rattle.tx_box.specs.Sizes.{cells, side, limits_of, at_most, at_least, clamp, greatest}
+use Rattle.tx_geom.specs.Along.{side}
+use Rattle.tx_box.specs.Sizes.{cells, limits_of, at_most, at_least, clamp, greatest}
 use Rattle.tx_box.specs.Axis.{each, same, bases, part_in, part_of, growing, part_round, round, round_with, next_round, last_round, final_size, final_sizes, unit_of, above_zero, room, last_of, sizes_of, axis_parts, axis_sizes}
 use Rattle.tx_box.specs.Laws.{HasFractions, IsLimitOf, GetsShare, OneUnit}
 use Rattle.tx_box.proofs.Options.{and_then_some, map_some, bool_cases, same_some, same_first, same_second}

@@ -10,12 +10,13 @@ use Rattle.tx_box.specs.declared.parts.Part.{Part}
 use Rattle.tx_box.specs.declared.parts.Part.TheVariants.{Settled, Growing}
 use Rattle.tx_box.specs.declared.items.Span.{Span}
 use Rattle.tx_box.specs.Item.{NotNegative, IsSized}
-use Rattle.tx_box.specs.Sizes.{cells, side, clamp}
+use Rattle.tx_geom.specs.Along.{side}
+use Rattle.tx_box.specs.Sizes.{cells, clamp}
 use Rattle.tx_box.specs.Axis.{bases, part_of, axis_parts, axis_sizes, axis_spans, each, settled_sizes, shares, growing, room, less_each, above_zero, above_zero_in, total_from, unit_of, same, part_round, round, round_with, next_round, last_round, final_size, final_sizes, last_of, sizes_of, placed, spans_from}
 use Rattle.tx_box.proofs.Options.{and_then_some, map_some, bool_cases, same_some, same_first, same_second}
 use Rattle.tx_box.proofs.Ends.{next_outcome}
 use Rattle.tx_box.proofs.Amounts.{Known, IsAmount, IsAmountPart, amount_part, growing_comes, settled_comes, product_is, quotient_is, difference_is, amount_cells, amount_product, amount_clamp, amount_total, amount_shares, amount_unit, amount_next, unit_is, same_true, positive_ratio, over_both, lowest_sum, lowest_negated}
-use Rattle.tx_frac.proofs.Whole.{*ℤ_assoc, +ℤ-*ℤ, neg-*ℤ}
+use Rattle.tx_frac.proofs.lemmas.Whole.{*ℤ_assoc, +ℤ-*ℤ, neg-*ℤ, cancel_pos}
 use Rattle.std.proofs.Math.IntN.{zero-*ℤ, +ℤ_idl}
 use Rattle.std.proofs.lemmas.List.Sums.{sum_by-cons}
 use Rattle.tx_geom.specs.declared.places.Size.{Size}
@@ -24,7 +25,7 @@ use Rattle.tx_box.specs.declared.items.Item.{Item}
 use Rattle.tx_box.specs.declared.items.Basis.{Basis}
 use Rattle.std.proofs.lemmas.List.Elements.{All-head, All-tail}
 use Rattle.tx_box.specs.Laws.{HasFractions, IsPositive, FillsTotal}
-use Rattle.tx_box.proofs.Numbers.{common, cancel, same_number, same_den, AreOver, HasNumber, AreAligned, settled_number, settled_total, growing_total, total, total-parts, over_difference, over_sum, over_cells, over_less_each, AreShares, common_shares, over_total}
+use Rattle.tx_box.proofs.Numbers.{common, same_number, same_den, AreOver, HasNumber, AreAligned, settled_number, settled_total, growing_total, total, total-parts, over_difference, over_sum, over_cells, over_less_each, AreShares, common_shares, over_total}
 
 -- ---- a round, by numbers
 
@@ -362,7 +363,7 @@ share_number w k l j a m n s u c hl hu hs hc e =
     let p : IsRatio (a *ℤ (m *ℤ pos l)) (l * (k * j)) c = subst (IsRatio (a *ℤ (m *ℤ pos l)) (l * (k * j))) (sym e) (w.products.product l (k * j) a (m *ℤ pos l) s u hs hu) in
     let q : IsRatio (n *ℤ pos (l * j)) (l * (k * j)) c = same_den (k * (l * j)) (l * (k * j)) (n *ℤ pos (l * j)) c (omega arith) (w.forms.wider k (l * j) n c hc) in
     let same : n *ℤ pos (l * j) ≡ a *ℤ (m *ℤ pos l) = w.forms.number (l * (k * j)) (n *ℤ pos (l * j)) (a *ℤ (m *ℤ pos l)) c q p in
-    cancel (n *ℤ pos j) (a *ℤ m) l hl
+    cancel_pos (n *ℤ pos j) (a *ℤ m) l hl
     (*ℤ_assoc n (pos j) (pos l) ∙ (ap (λ x. n *ℤ pos x) (mul_comm j l) ∙ (same ∙ sym (*ℤ_assoc a m (pos l)))))
 
 grown : Known → (k l j : ℕ) (m : ℤ) (u : Ratio) (ps : List Part) (cs : List Ratio) (ns as' : List ℤ) → 0 < l → IsRatio (m *ℤ pos l) (k * j) u
@@ -604,7 +605,7 @@ sizes_of_last w left ps cs h low a some lr =
           let u : IsRatio (m *ℤ pos o.den) (joint.den * o.num) lr.unit =
           subst (IsRatio (m *ℤ pos o.den) (joint.den * o.num)) (sym unit_by) (w.products.quotient joint.den o.den o.num m left s.0 o.positive o.num_positive g o.is) in
           let all = grown w joint.den o.den o.num m lr.unit ps cs joint.nums o.nums o.positive u units joint.over o.over in
-          cancel (growing_total ps joint.nums) m o.num o.num_positive (all ∙ (ap (λ z. z *ℤ m) o.sum ∙ *ℤ_comm (pos o.num) m));
+          cancel_pos (growing_total ps joint.nums) m o.num o.num_positive (all ∙ (ap (λ z. z *ℤ m) o.sum ∙ *ℤ_comm (pos o.num) m));
     }
 
 all_zip_length : {A B : Type 0} (R : A → B → Type 0) (xs : List A) (ys : List B) → AllZip R xs ys → length xs ≡ length ys

@@ -17,7 +17,8 @@ use Rattle.tx_box.specs.declared.sizes.Bases.{Bases}
 use Rattle.tx_box.specs.declared.parts.Limits.{Limits}
 use Rattle.tx_box.specs.declared.parts.Part.{Part}
 use Rattle.tx_box.specs.declared.parts.Part.TheVariants.{Settled, Growing}
-use Rattle.tx_box.specs.Sizes.{cells, side, outer, limits_of, clamp}
+use Rattle.tx_geom.specs.Along.{side}
+use Rattle.tx_box.specs.Sizes.{cells, outer, limits_of, clamp}
 
 -- the answers of f for all elements, where each has one
 abbrev pub each : {A B : Type 0} → (A → Option B) → List A → Option (List B)

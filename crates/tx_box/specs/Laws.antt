@@ -11,7 +11,8 @@ use Rattle.tx_box.specs.declared.items.Span.{Span}
 use Rattle.tx_box.specs.declared.parts.Limits.{Limits}
 use Rattle.tx_box.specs.declared.parts.Part.{Part}
 use Rattle.tx_box.specs.Item.{NotNegative, IsSized}
-use Rattle.tx_box.specs.Sizes.{cells, side, limits_of, greatest}
+use Rattle.tx_geom.specs.Along.{side}
+use Rattle.tx_box.specs.Sizes.{cells, limits_of, greatest}
 use Rattle.tx_box.specs.Axis.{bases, shares, axis_parts, last_of, axis_sizes, axis_spans}
 
 -- the numbers of an item are fractions in lowest terms

@@ -5,9 +5,7 @@ use Rattle.tx_frac.specs.Ratio.{Ratio, whole_of, floor_of, add, mul, div, less}
 use Rattle.tx_frac.specs.declared.scalars.Scalar.{Scalar}
 use Rattle.tx_frac.specs.declared.scalars.Unit.{Unit}
 use Rattle.tx_frac.specs.declared.scalars.Unit.TheVariants.{Cells, Percent, W, H, Vw, Vh, Fr, Auto}
-use Rattle.tx_geom.specs.declared.places.Size.{Size}
-use Rattle.tx_geom.specs.declared.choices.Axis.{Axis}
-use Rattle.tx_geom.specs.declared.choices.Axis.TheVariants.{Width, Height}
+use Rattle.tx_geom.specs.Along.{side}
 use Rattle.tx_geom.specs.declared.choices.BoxSizing.{BoxSizing}
 use Rattle.tx_geom.specs.declared.choices.BoxSizing.TheVariants.{BorderBox, ContentBox}
 use Rattle.tx_box.specs.declared.items.Item.{Item}
@@ -17,11 +15,6 @@ use Rattle.tx_box.specs.declared.parts.Limits.{Limits}
 -- n cells
 abbrev pub cells : ℕ → Ratio
 cells n = whole_of (pos n)
-
--- the side of a size in a direction
-abbrev pub side : Axis → Size → ℕ
-side Width s = s.width
-side Height s = s.height
 
 -- so many hundredths of a base
 abbrev pub hundredths : Ratio → ℕ → Option Ratio

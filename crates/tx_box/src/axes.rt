@@ -3,14 +3,13 @@
 ghost use Rattle.std.specs.Prelude.{◌≡◌, ℕ, ◌+◌, ◌*◌, ◌^◌, ◌<◌, ◌≤◌, ℤ, pos, sum, length, drop, slice_index, All, IfOk, IfErr, IfSome, OnSome, MatchOption, Option, Some, None, [], ◌∷◌};
 ghost use Rattle.std.specs.List.{zip};
 ghost use Rattle.tx_box.specs.Item.{IsSized};
-ghost use Rattle.tx_box.specs.Sizes.{cells, side};
+ghost use Rattle.tx_box.specs.Sizes.{cells};
 ghost use Rattle.tx_box.specs.Shape.{IsCellCount, IsPart, IsSettledPart, IsUpTo};
 ghost use Rattle.tx_box.specs.Axis.{settled_sizes, sizes_of, placed, spans_from, axis_spans, IsCause};
 
 use crate::items::{Basis, Item, LayoutFault, Span};
 use crate::parts::Part;
 use crate::rounds::{finish, parts_of, room_beside, settle};
-use crate::sizes::side;
 use std::alloc::Global;
 use tx_frac::Frac;
 use tx_geom::{Axis, Size};
@@ -44,7 +43,7 @@ pub fn resolve_axis(
     ensures refused { IfErr result (IsCause axis (axis_spans items.now gaps.now axis basis own.now ≡ None)) }
 {
     let mut parts = parts_of(alloc, items, axis, basis, own)?;
-    let total = side(axis, basis.area);
+    let total = basis.area.along(axis);
     match work_out(&mut parts, gaps, total) {
         None => Err(LayoutFault::Fraction { axis }),
         Some(()) => place(alloc, &parts, gaps, axis),

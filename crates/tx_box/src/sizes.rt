@@ -17,7 +17,7 @@ pub struct Bases {
 }
 
 ghost use Rattle.tx_box.specs.Item.{IsSized, IsLimit, NotNegative};
-ghost use Rattle.tx_box.specs.Sizes.{cells, side, hundredths, amount_in, with_gutter, outer, limit, limits_of, at_most, at_least, clamp, across, box_cells};
+ghost use Rattle.tx_box.specs.Sizes.{cells, hundredths, amount_in, with_gutter, outer, limit, limits_of, at_most, at_least, clamp, across, box_cells};
 ghost use Rattle.tx_box.specs.Axis.{bases};
 ghost use Rattle.tx_box.specs.Shape.{AreLimits, IsCellCount};
 
@@ -53,20 +53,10 @@ fn size_across(item: &Item, bases: Bases) -> Option<Frac>
 {
     let limits = item_limits(item, bases)?;
     let size = match item.size.unit {
-        Unit::Fr => Frac::whole(side(bases.axis, bases.own) as i64),
+        Unit::Fr => Frac::whole(bases.own.along(bases.axis) as i64),
         _ => outer_size(item.size, item, bases)?,
     };
     limits.clamp(size)
-}
-
-// The side of a size in a direction.
-pub fn side(axis: Axis, size: Size) -> u32
-    ensures { result ≡ side axis size }
-{
-    match axis {
-        Axis::Width => size.width,
-        Axis::Height => size.height,
-    }
 }
 
 // So many hundredths of a base.
@@ -86,7 +76,7 @@ fn amount(scalar: Scalar, bases: Bases) -> Option<Frac>
 {
     match scalar.unit {
         Unit::Cells | Unit::Fr | Unit::Auto => Some(scalar.value),
-        Unit::Percent => hundredths(scalar.value, side(bases.axis, bases.own)),
+        Unit::Percent => hundredths(scalar.value, bases.own.along(bases.axis)),
         Unit::W => hundredths(scalar.value, bases.own.width),
         Unit::H => hundredths(scalar.value, bases.own.height),
         Unit::Vw => hundredths(scalar.value, bases.screen.width),

@@ -4,8 +4,8 @@ use Rattle.std.specs.Prelude.{◌*ℤ◌, neg_ℤ, unsigned_abs, int_div}
 use Rattle.std.specs.Int.{◌∣◌}
 use Rattle.std.proofs.Math.Nat.{mul_comm, eq-zero-or-pos, div-mul_cancel, dvd-mul_left, dvd_antisymm, div-le_self}
 use Rattle.tx_frac.specs.Ratio.{Ratio, IsLowest, IsRatio, IsBounded, lowest, gcd}
-use Rattle.tx_frac.proofs.Whole.{*ℤ_right_comm, neg-*ℤ, cancel_pos, abs-same}
-use Rattle.tx_frac.proofs.Gcd.{IsGcd-gcd, gcd_pos, gcd-div, dvd-of_coprime}
+use Rattle.tx_frac.proofs.lemmas.Whole.{*ℤ_right_comm, neg-*ℤ, cancel_pos, abs-same}
+use Rattle.tx_frac.proofs.lemmas.Gcd.{IsGcd-gcd, gcd_pos, gcd-div, dvd-of_coprime}
 
 -- ---- one pair in lowest terms for each value
 

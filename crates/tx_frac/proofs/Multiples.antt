@@ -7,10 +7,10 @@ use Rattle.std.proofs.Math.Nat.{mul_comm, mul_assoc, mul-one, mul-pos, div-mul_c
 use borrow.Author.Differences.{neg_is, product_is}
 use Rattle.tx_frac.specs.Ratio.{Ratio, IsRatio, in_range, gcd, whole_of, negated, sum_num, sum_of, product_of, quotient_of, is_less, widened_left, widened_right, common_den, sum_fits, add, mul, div, less}
 use Rattle.tx_frac.specs.Laws.{OneForm, SumsOverOne, ProductsOverTwo, DefinedInRange}
-use Rattle.tx_frac.proofs.Gcd.{IsGcd-gcd, gcd_pos, gcd_le, gcd-div, dvd-of_coprime}
+use Rattle.tx_frac.proofs.lemmas.Gcd.{IsGcd-gcd, gcd_pos, gcd_le, gcd-div, dvd-of_coprime}
 use Rattle.tx_frac.proofs.Lowest.{IsRatio-lowest, same_lowest, div_pos}
 use Rattle.tx_frac.proofs.Operations.{lt_scaled, shared, spread, IsQuotient-quotient_of}
-use Rattle.tx_frac.proofs.Whole.{*ℤ_assoc, *ℤ_left_comm, *ℤ_right_comm, +ℤ-*ℤ, cancel_pos, abs-same}
+use Rattle.tx_frac.proofs.lemmas.Whole.{*ℤ_assoc, *ℤ_left_comm, *ℤ_right_comm, +ℤ-*ℤ, cancel_pos, abs-same}
 use Rattle.tx_frac.proofs.Written.{both_true, in_range-below}
 
 -- ---- an equation times a number

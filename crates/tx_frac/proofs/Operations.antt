@@ -7,9 +7,9 @@ use Rattle.std.proofs.Math.Nat.{mul_comm, mul-one, mul-pos, div-mul_cancel, mul-
 use Rattle.std.proofs.Math.IntN.{*ℤ_comm, *ℤ-one, one}
 use borrow.Author.Differences.{up, down, product_is, lt-true, lt-false, true_is_lt, false_is_lt}
 use Rattle.tx_frac.specs.Ratio.{Ratio, IsQuotient, lowest, gcd, widened_left, widened_right, common_den, sum_of, is_less, quotient_of}
-use Rattle.tx_frac.proofs.Gcd.{IsGcd-gcd, gcd_pos}
+use Rattle.tx_frac.proofs.lemmas.Gcd.{IsGcd-gcd, gcd_pos}
 use Rattle.tx_frac.proofs.Lowest.{IsRatio-lowest, lowest_same, div_pos}
-use Rattle.tx_frac.proofs.Whole.{*ℤ_assoc, *ℤ_right_comm, +ℤ-*ℤ}
+use Rattle.tx_frac.proofs.lemmas.Whole.{*ℤ_assoc, *ℤ_right_comm, +ℤ-*ℤ}
 
 -- ---- over the least common multiple
 

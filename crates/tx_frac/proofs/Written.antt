@@ -9,7 +9,7 @@ use mir.Val.{SFits}
 use Rattle.tx_frac.specs.Ratio.{Ratio, IsBounded, IsRatio, IsQuotient, in_range, lowest, gcd, sum_fits, sum_num, sum_of, add, less, is_less, div, quotient_of, whole_of, widened_left, widened_right, common_den}
 use Rattle.tx_frac.proofs.Lowest.{IsRatio-lowest}
 use Rattle.tx_frac.proofs.Operations.{widened_sum, widened_less, signum_small, signum_bound, IsQuotient-quotient_of}
-use Rattle.tx_frac.proofs.Gcd.{gcd_pos, gcd_le}
+use Rattle.tx_frac.proofs.lemmas.Gcd.{gcd_pos, gcd_le}
 
 -- a signed number as it is read back from its bits
 abbrev pub read_back : ℤ → ℤ

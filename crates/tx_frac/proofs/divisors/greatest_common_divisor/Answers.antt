@@ -1,6 +1,6 @@
 use Rattle.std.proofs.Common.{sym, arith}
 use Rattle.std.proofs.lemmas.Nat.Gcd.{IsGcd-from_zero, IsGcd-from_mod}
-use Rattle.tx_frac.proofs.Gcd.{gcd-of_IsGcd, gcd_pos, gcd_le}
+use Rattle.tx_frac.proofs.lemmas.Gcd.{gcd-of_IsGcd, gcd_pos, gcd_le}
 use Rattle.tx_frac.proofs.divisors.greatest_common_divisor.Goals as goal
 
 pub loop-smaller-preserved : goal.loop-smaller-preserved

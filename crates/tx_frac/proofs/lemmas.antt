@@ -1,0 +1,3 @@
+-- The lemmas that proofs of crates above may cite.
+pub mod Gcd
+pub mod Whole
