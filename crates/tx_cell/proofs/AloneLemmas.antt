@@ -22,8 +22,8 @@ use Rattle.ucd_emoji.proofs.BinaryLemmas.{is_extended_pictographic_stepped}
 use Rattle.ucd_emoji.proofs.Computing.{ucd_emoji}
 use Rattle.unicode_segmentation.specs.Grapheme.{break_by_pair, ends_in_linker, joins_conjunct, is_extend, is_zwj, is_regional, ends_in_pictograph, joins_emoji, ends_in_half_flag, joins_flag, is_grapheme_break, graphemes}
 use Rattle.unicode_segmentation.specs.Segments.{prepend, cut, segments}
+use Rattle.std.proofs.lemmas.Bool.{and_from, and_parts}
 use Rattle.tx_cell.specs.Cell.{cluster_cell, cell_of_clusters, cell_of}
-use Rattle.tx_cell.specs.Pen.{and_first, and_second, both_true}
 use Rattle.tx_cell.specs.declared.pen.Pen.{Pen}
 use Rattle.tx_cell.proofs.ClusterLemmas.{AreScalars, AreScalars-cut}
 
@@ -172,7 +172,7 @@ pictograph_over_start (o ∷ outer) first starts joins is =
     no_ender : (test : Bool) → is_extended_pictographic o ≡ test → (test || (is_extend (grapheme_cluster_break o) && ends_in_pictograph outer)) ≡ true
         → is_ender (grapheme_cluster_break o) ≡ false
     no_ender true pictograph found = pictograph_no_ender o pictograph
-    no_ender false other found = joins_no_ender _ (extend_joins _ (and_first _ _ found))
+    no_ender false other found = joins_no_ender _ (extend_joins _ (and_parts _ _ found).0)
 
 pictograph_step : (pictograph extends before inside : Bool) → (extends ≡ true → before ≡ true → inside ≡ true)
     → (pictograph || (extends && before)) ≡ true → (pictograph || (extends && inside)) ≡ true
@@ -193,13 +193,13 @@ emoji_inside : (inner outer : List ℕ) (first next : ℕ) → LastIs first inne
 unfolding LastIs
 emoji_inside [] outer first next last starts is = absurd last
 emoji_inside (c ∷ []) outer first next last starts is =
-    let joiner = and_first _ _ (and_first _ _ is) in
-    let before = and_second _ _ (and_first _ _ is) in
+    let joiner = (and_parts _ _ (and_parts _ _ is).0).0 in
+    let before = (and_parts _ _ (and_parts _ _ is).0).1 in
     absurd (pictograph_over_start outer first starts (subst (λ d. joins_before (grapheme_cluster_break d) ≡ true) last (zwj_joins _ joiner)) before)
 emoji_inside (c ∷ d ∷ inner) outer first next last starts is =
-    let joiner = and_first _ _ (and_first _ _ is) in
-    let before = pictograph_inside (d ∷ inner) outer first last starts (and_second _ _ (and_first _ _ is)) in
-    both_true _ _ (both_true _ _ joiner before) (and_second _ _ is)
+    let joiner = (and_parts _ _ (and_parts _ _ is).0).0 in
+    let before = pictograph_inside (d ∷ inner) outer first last starts (and_parts _ _ (and_parts _ _ is).0).1 in
+    and_from _ _ (and_from _ _ joiner before) (and_parts _ _ is).1
 
 -- half a flag before the start isn't joined with the first character
 unjoined_flag : (conjunct emoji half : Bool) → not ((true && conjunct) || emoji || (half && true)) ≡ true → half ≡ false
@@ -259,9 +259,9 @@ unbroken_alone (c ∷ inner) outer first next after more last starts is =
     unbroken (break_by_pair true (grapheme_cluster_break c) (grapheme_cluster_break next)) _ _
     (some_join (joins_conjunct (c ∷ (inner ++ outer)) next) (joins_emoji (c ∷ (inner ++ outer)) next) (joins_flag (c ∷ (inner ++ outer)) next)
     (joins_conjunct (c ∷ inner) next) (joins_emoji (c ∷ inner) next) (joins_flag (c ∷ inner) next)
-    (λ joins. both_true _ _ (linker_inside (c ∷ inner) outer first last starts (and_first _ _ joins)) (and_second _ _ joins))
+    (λ joins. and_from _ _ (linker_inside (c ∷ inner) outer first last starts (and_parts _ _ joins).0) (and_parts _ _ joins).1)
     (λ joins. emoji_inside (c ∷ inner) outer first next last starts joins)
-    (λ joins. both_true _ _ (sym (flag_same (c ∷ inner) outer first last starts) ∙ and_first _ _ joins) (and_second _ _ joins)))
+    (λ joins. and_from _ _ (sym (flag_same (c ∷ inner) outer first last starts) ∙ (and_parts _ _ joins).0) (and_parts _ _ joins).1))
     is
 
 -- the characters are one cluster by themselves

@@ -1,5 +1,6 @@
 -- The clusters of a text are texts.
-use Rattle.std.proofs.Common.{◌≡◌, ◌++◌, ◌&&◌, ℕ, List, [], ◌∷◌, Bool, true, false, if◌then◌else◌, refl}
+use Rattle.std.proofs.Common.{◌≡◌, ◌++◌, ℕ, List, [], ◌∷◌, Bool, true, false, if◌then◌else◌, refl}
+use Rattle.std.proofs.lemmas.Bool.{and_parts}
 use Rattle.std.proofs.lemmas.List.Elements.{All-nil, All-cons, All-head, All-tail, All-map, All-weaker}
 use Rattle.std.proofs.lemmas.Str.{scalars-chars}
 use Rattle.std.specs.List.{All}
@@ -11,14 +12,6 @@ use Rattle.unicode_segmentation.specs.Segments.{Rule, prepend, cut, segments}
 
 unfoldable pub AreScalars : List ℕ → Type 0
 AreScalars characters = scalars characters ≡ true
-
-and_first : (a b : Bool) → (a && b) ≡ true → a ≡ true
-and_first true b both = refl
-and_first false b both = cc
-
-and_second : (a b : Bool) → (a && b) ≡ true → b ≡ true
-and_second true b both = both
-and_second false b both = cc
 
 scalars-cons : (c : ℕ) (cs : List ℕ) → scalar c ≡ true → AreScalars cs → AreScalars (c ∷ cs)
 unfolding AreScalars
@@ -40,8 +33,8 @@ pub AreScalars-cut : (rule : Rule) (before cs after : List ℕ) → scalars cs �
 unfolding cut
 AreScalars-cut rule before [] after all = All-nil AreScalars
 AreScalars-cut rule before (c ∷ cs) after all =
-    AreScalars-by_break (rule (c ∷ before) (cs ++ after)) c (cut rule (c ∷ before) cs after) (and_first _ _ all)
-    (AreScalars-cut rule (c ∷ before) cs after (and_second _ _ all))
+    AreScalars-by_break (rule (c ∷ before) (cs ++ after)) c (cut rule (c ∷ before) cs after) (and_parts _ _ all).0
+    (AreScalars-cut rule (c ∷ before) cs after (and_parts _ _ all).1)
 
 IsUtf8-scalars : (cs : List ℕ) → AreScalars cs → IsUtf8 (encode_utf8_all cs)
 unfolding AreScalars
@@ -54,8 +47,3 @@ IsUtf8-graphemes text utf8 =
     let pieces = cut (is_grapheme_break true) [] (chars text) [] in
     All-map IsUtf8 encode_utf8_all pieces
     (All-weaker AreScalars (λ cs. IsUtf8 (encode_utf8_all cs)) IsUtf8-scalars pieces (AreScalars-cut (is_grapheme_break true) [] (chars text) [] (scalars-chars text utf8)))
-
--- an empty text has no cluster
-pub graphemes-nil : graphemes true [] ≡ []
-unfolding segments cut chars
-graphemes-nil = refl

@@ -4,8 +4,8 @@ pub mod ClusterLemmas
 pub mod GridLemmas
 pub mod HeadLemmas
 pub mod LineLemmas
-pub mod MadeLemmas
 pub mod PrintableLemmas
 pub mod StripLemmas
 pub mod WrapLaws
 pub mod WrapLemmas
+pub mod lemmas

@@ -1,6 +1,6 @@
 -- A line of printable ASCII characters has one cell for each of its bytes.
 use Rattle.std.proofs.Common.{◌≡◌, ◌<◌, ◌≤◌, ℕ, zero, suc, List, [], ◌∷◌, ◌++◌, Bool, true, false, not, ◌||◌, map, refl, sym, arith, rules, ap, ap₂, ◌∙◌}
-use Rattle.std.proofs.lemmas.Bool.{leb-true}
+use Rattle.std.proofs.lemmas.Bool.{and_parts, leb-true}
 use Rattle.std.proofs.lemmas.List.Elements.{All-nil, All-cons, All-head, All-tail}
 use Rattle.std.proofs.lemmas.Str.{chars-IsAscii, encode_ascii, is_utf8-from_IsUtf8, IsUtf8-from_ascii}
 use Rattle.std.specs.Char.{is_control}
@@ -20,9 +20,9 @@ use Rattle.unicode_segmentation.proofs.GraphemeLemmas.{is_grapheme_break-others}
 use Rattle.unicode_width.specs.Width.{str_width}
 use Rattle.unicode_width.proofs.Rules.{str_width-printable}
 use Rattle.tx_cell.specs.Cell.{IsOfItsText, shown, is_tab, is_unfit, cluster_cell, cell_of}
-use Rattle.tx_cell.specs.Pen.{and_first, and_second}
 use Rattle.tx_cell.specs.Plain.{is_printable}
 use Rattle.tx_cell.specs.Strip.{cluster_columns, line_cells, with_tail}
+use Rattle.tx_cell.specs.Pen.{HasByteChannels}
 use Rattle.tx_cell.specs.declared.pen.Pen.{Pen}
 
 is_other : GraphemeClusterBreak → Bool
@@ -47,7 +47,7 @@ chosen true result is holds = holds
 chosen false result is holds = cc
 
 printable_small : (c : ℕ) → is_printable c ≡ true → (0x20 ≤ c) × (c ≤ 0x7E)
-printable_small c is = (leb-true 0x20 c (and_first _ _ is), leb-true c 0x7E (and_second _ _ is))
+printable_small c is = let both = and_parts _ _ is in (leb-true 0x20 c both.0, leb-true c 0x7E both.1)
 
 printable_other : (c : ℕ) → is_printable c ≡ true → Other ≡ grapheme_cluster_break c
 printable_other c is =
@@ -116,9 +116,10 @@ single_printable c pen is =
     let width : str_width false (c ∷ []) ≡ 1 = str_width-printable false (c ∷ []) (rw is refl) in
     rw (clusters, characters, tab, fit, width) refl
 
-pub IsOfItsText-printable : (c : ℕ) (pen : Pen) → is_printable c ≡ true → IsOfItsText (shown (c ∷ []) 1 pen)
-IsOfItsText-printable c pen is =
+pub IsOfItsText-printable : (c : ℕ) (pen : Pen) → HasByteChannels pen → is_printable c ≡ true → IsOfItsText (shown (c ∷ []) 1 pen)
+IsOfItsText-printable c pen channels is =
     record {
+      channels = channels;
       utf8 = is_utf8-from_IsUtf8 (c ∷ []) (IsUtf8-from_ascii (c ∷ []) (IsAscii-printable (c ∷ []) (All-cons Printable c [] is (All-nil Printable))));
       own = single_printable c pen is;
     }

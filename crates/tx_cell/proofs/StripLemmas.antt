@@ -1,7 +1,7 @@
 -- The cells of a line are well formed, and no more than its bytes.
-use Rattle.std.proofs.Common.{◌≡◌, ◌+◌, ◌-◌, ◌<◌, ◌≤◌, ℕ, List, [], ◌∷◌, ◌++◌, length, Bool, true, false, ◌||◌, if◌then◌else◌, refl, sym, arith, rules, ap, subst, ◌∙◌, inl, inr, ◌⊎◌, length-append, length-drop, zero, suc, set, get_or, take, drop, ap₂, add-one, append_assoc, append-nil}
+use Rattle.std.proofs.Common.{◌≡◌, ◌+◌, ◌-◌, ◌<◌, ◌≤◌, ℕ, List, [], ◌∷◌, ◌++◌, length, Bool, true, false, ◌||◌, if◌then◌else◌, refl, sym, arith, rules, ap, subst, ◌∙◌, inl, inr, length-append, length-drop, zero, suc, set, get_or, take, drop, ap₂, add-one, append_assoc, append-nil}
 use Rattle.std.proofs.Math.Seq.{length-take-le, drop-cons}
-use Rattle.std.proofs.lemmas.Bool.{eqb-false, ltb-false, ltb-true}
+use Rattle.std.proofs.lemmas.Bool.{ltb-false, ltb-true, or_parts}
 use Rattle.std.proofs.lemmas.List.Elements.{All-head, All-tail, All-get_or}
 use Rattle.std.specs.List.{flat_map, concat, All, slice_get}
 use Rattle.std.specs.Option.{option_map_or}
@@ -15,62 +15,14 @@ use Rattle.std.proofs.lemmas.Str.{chars-nil}
 use Rattle.unicode_segmentation.specs.Grapheme.{graphemes, is_grapheme_break}
 use Rattle.unicode_width.specs.Width.{str_width}
 use Rattle.unicode_width.proofs.Rules.{str_width-printable}
-use Rattle.tx_cell.specs.Cell.{CellValue, IsOfItsText, shown, blank, replacement, tail_of, is_tab, is_unfit, cluster_cell, cell_of_clusters, cell_of}
+use Rattle.tx_cell.specs.Pen.{HasByteChannels, white_on_black}
+use Rattle.tx_cell.specs.Cell.{CellValue, IsMade, IsOfItsText, most_bytes, shown, blank, replacement, tail_of, is_tab, is_unfit, cluster_cell, cell_of_clusters, cell_of}
 use Rattle.tx_cell.specs.Strip.{with_tail, owed_tail, cluster_columns, line_cells, IsWellFormedAfter, IsWellFormed, without_tail, without_head, cut_end, cut_front, cropped, parts_from, joined, behind_start, before_end, AreCuts, laid}
 use Rattle.tx_cell.specs.declared.pen.Pen.{Pen}
 use Rattle.unicode_segmentation.proofs.SegmentsLemmas.{concat-segments}
-use Rattle.tx_cell.proofs.ClusterLemmas.{IsUtf8-graphemes, graphemes-nil}
-use Rattle.tx_cell.proofs.CellLemmas.{IsOfItsText-blank, IsOfItsText-replacement, IsOfItsText-fit, same_text, single_from_clusters}
-
-choice : (tab unfit none replaced : Bool) (b r s cell : CellValue)
-    → ◌≡◌ {A = Option CellValue} (if tab then Some b else if unfit then Some r else if none then None else if replaced then Some r else Some s) (Some cell)
-    → (cell ≡ b) ⊎ ((cell ≡ r) ⊎ ((tab ≡ false) × (unfit ≡ false) × (none ≡ false) × (replaced ≡ false) × (cell ≡ s)))
-choice true unfit none replaced b r s cell is = inl cc
-choice false true none replaced b r s cell is = inr (inl cc)
-choice false false true replaced b r s cell is = cc
-choice false false false true b r s cell is = inr (inl cc)
-choice false false false false b r s cell is = inr (inr (refl, refl, refl, refl, cc))
-
-not_zero : (n : ℕ) → (n == 0) ≡ false → 0 < n
-not_zero n differs = let other : n ≡ 0 → ⊥ = eqb-false n 0 differs in omega arith
-
-neither_first : (a b : Bool) → (a || b) ≡ false → a ≡ false
-neither_first true b neither = cc
-neither_first false b neither = refl
-
-neither_second : (a b : Bool) → (a || b) ≡ false → b ≡ false
-neither_second true b neither = cc
-neither_second false b neither = neither
-
--- what is known of a cell that shows a cluster
-pub record ShowsCluster (cluster : List ℕ) (pen : Pen) (cell : CellValue) : Type 0 where
-  pub no_tab : is_tab cluster ≡ false
-  pub fit : is_unfit (chars cluster) ≡ false
-  pub some : 0 < str_width false (chars cluster)
-  pub few : str_width false (chars cluster) ≤ 2
-  pub fits : length cluster ≤ 32
-  pub is : cell ≡ shown cluster (str_width false (chars cluster)) pen
-
--- a cluster's cell is a blank, U+FFFD or shows the cluster
-pub cluster_cell-cases : (cluster : List ℕ) (pen : Pen) (cell : CellValue) → cluster_cell cluster pen ≡ Some cell
-    → (cell ≡ blank pen) ⊎ ((cell ≡ replacement pen) ⊎ ShowsCluster cluster pen cell)
-unfolding cluster_cell
-cluster_cell-cases cluster pen cell is =
-    let width = str_width false (chars cluster) in
-    elim (choice (is_tab cluster) (is_unfit (chars cluster)) (width == 0) (nat_lt 2 width || nat_lt 32 (length cluster)) (blank pen) (replacement pen) (shown cluster width pen) cell is) [
-      | inl blank_is ↦ inl blank_is
-      | inr others ↦ inr (elim others [
-        | inl replacement_is ↦ inl replacement_is
-        | inr shows ↦ inr (record {
-          no_tab = shows.0;
-          fit = shows.1;
-          some = not_zero _ shows.2;
-          few = ltb-false 2 width (neither_first _ _ shows.3);
-          fits = ltb-false 32 (length cluster) (neither_second _ _ shows.3);
-          is = shows.4;
-        })
-      ])
-    ]
+use Rattle.tx_cell.proofs.ClusterLemmas.{IsUtf8-graphemes}
+use Rattle.tx_cell.proofs.CellLemmas.{cluster_cell-cases, IsOfItsText-replacement, IsOfItsText-fit, same_text, single_from_clusters}
+use Rattle.tx_cell.proofs.lemmas.MadeCells.{IsMade-own, IsOfItsText-blank, cell_of-nothing, white_on_black-channels}
 
 printable_byte : (byte : ℕ) → byte < 128 → is_control byte ≡ false → is_in_range 0x20 0x7E byte ≡ true
 printable_byte byte ascii shown = search rules
@@ -93,7 +45,7 @@ one_column-by : (byte : ℕ) (ascii : Bool) → nat_lt byte 128 ≡ ascii → is
 one_column-by byte true below fit =
     let is = chars-ascii byte below in
     let fit_byte = rw is at fit in
-    let shown_byte = neither_first _ _ (neither_first _ _ fit_byte) in
+    let shown_byte = (or_parts _ _ (or_parts _ _ fit_byte).0).0 in
     let small = ltb-true byte 128 below in
     let range = printable_byte byte small shown_byte in
     let one : str_width false (byte ∷ []) ≡ 1 = str_width-printable false (byte ∷ []) (rw range refl) in
@@ -129,30 +81,26 @@ pub IsWellFormed-with_tail : (cell : CellValue) → IsOfItsText cell → IsWellF
 IsWellFormed-with_tail cell own = IsWellFormed-with_tail-by cell (nat_lt 1 cell.width) refl own
 
 -- a cell of a text is the one that its own text makes
-pub IsOfItsText-cell_of : (text : List ℕ) (pen : Pen) (cell : CellValue) → IsUtf8 text → cell_of text pen ≡ Some cell → IsOfItsText cell
+pub IsOfItsText-cell_of : (text : List ℕ) (pen : Pen) (cell : CellValue) → HasByteChannels pen → IsUtf8 text → cell_of text pen ≡ Some cell → IsOfItsText cell
 unfolding cell_of
-IsOfItsText-cell_of text pen cell utf8 is = by_clusters (graphemes true text) refl is
+IsOfItsText-cell_of text pen cell channels utf8 is = by_clusters (graphemes true text) refl is
   where
     by_cluster : (cluster : List ℕ) → graphemes true text ≡ cluster ∷ [] → cluster_cell cluster pen ≡ Some cell → IsOfItsText cell
     by_cluster cluster single made = elim (cluster_cell-cases cluster pen cell made) [
-      | inl blank_is ↦ rw blank_is (IsOfItsText-blank pen)
+      | inl blank_is ↦ rw blank_is (IsOfItsText-blank pen channels)
       | inr others ↦ elim others [
-        | inl replacement_is ↦ rw replacement_is (IsOfItsText-replacement pen)
-        | inr shows ↦ rw shows.is (IsOfItsText-fit cluster _ pen (subst IsUtf8 (same_text text cluster utf8 single) utf8) (single_from_clusters text cluster utf8 single) shows.no_tab shows.fit refl shows.some shows.few shows.fits)
+        | inl replacement_is ↦ rw replacement_is (IsOfItsText-replacement pen channels)
+        | inr shows ↦ rw shows.is (IsOfItsText-fit cluster _ pen channels (subst IsUtf8 (same_text text cluster utf8 single) utf8) (single_from_clusters text cluster utf8 single) shows.no_tab shows.fit refl shows.some shows.few shows.fits)
       ]
     ]
 
     by_clusters : (clusters : List (List ℕ)) → graphemes true text ≡ clusters → cell_of_clusters clusters pen ≡ Some cell → IsOfItsText cell
     by_clusters [] same made = cc
     by_clusters (cluster ∷ []) same made = by_cluster cluster same made
-    by_clusters (first ∷ second ∷ more) same made = let is_replacement : cell ≡ replacement pen = cc in rw is_replacement (IsOfItsText-replacement pen)
-
-cell_of-nil : (pen : Pen) → cell_of [] pen ≡ None
-unfolding cell_of
-cell_of-nil pen = rw graphemes-nil refl
+    by_clusters (first ∷ second ∷ more) same made = let is_replacement : cell ≡ replacement pen = cc in rw is_replacement (IsOfItsText-replacement pen channels)
 
 some_byte : (text : List ℕ) (pen : Pen) (cell : CellValue) → cell_of text pen ≡ Some cell → 0 < length text
-some_byte [] pen cell is = let none = cell_of-nil pen in cc
+some_byte [] pen cell is = let none = cell_of-nothing pen in cc
 some_byte (byte ∷ text) pen cell is = omega arith
 
 length-with_tail-by : (cell : CellValue) (is_wide : Bool) (n : ℕ) → nat_lt 1 cell.width ≡ is_wide → 0 < n → (1 < cell.width → 2 ≤ n) → length (with_tail cell) ≤ n
@@ -190,30 +138,30 @@ pub record FitColumns (text : List ℕ) (columns : List CellValue) : Type 0 wher
   pub formed : IsWellFormed columns
   pub short : length columns ≤ length text
 
-FitColumns-cell : (text : List ℕ) (pen : Pen) (made : Option CellValue) → IsUtf8 text → cell_of text pen ≡ made
+FitColumns-cell : (text : List ℕ) (pen : Pen) (made : Option CellValue) → HasByteChannels pen → IsUtf8 text → cell_of text pen ≡ made
     → FitColumns text (option_map_or with_tail made [])
-FitColumns-cell text pen None utf8 is = record { formed = tt; short = omega arith }
-FitColumns-cell text pen (Some cell) utf8 is = record {
-  formed = IsWellFormed-with_tail cell (IsOfItsText-cell_of text pen cell utf8 is);
+FitColumns-cell text pen None channels utf8 is = record { formed = tt; short = omega arith }
+FitColumns-cell text pen (Some cell) channels utf8 is = record {
+  formed = IsWellFormed-with_tail cell (IsOfItsText-cell_of text pen cell channels utf8 is);
   short = length-with_tail text pen cell utf8 is;
 }
 
-FitColumns-clusters : (pen : Pen) (clusters : List (List ℕ)) → All IsUtf8 clusters → FitColumns (concat clusters) (flat_map (cluster_columns pen) clusters)
-FitColumns-clusters pen [] all = record { formed = tt; short = omega arith }
-FitColumns-clusters pen (cluster ∷ clusters) all =
-    let first = FitColumns-cell cluster pen (cell_of cluster pen) (All-head IsUtf8 cluster clusters all) refl in
-    let rest = FitColumns-clusters pen clusters (All-tail IsUtf8 cluster clusters all) in
+FitColumns-clusters : (pen : Pen) (clusters : List (List ℕ)) → HasByteChannels pen → All IsUtf8 clusters → FitColumns (concat clusters) (flat_map (cluster_columns pen) clusters)
+FitColumns-clusters pen [] channels all = record { formed = tt; short = omega arith }
+FitColumns-clusters pen (cluster ∷ clusters) channels all =
+    let first = FitColumns-cell cluster pen (cell_of cluster pen) channels (All-head IsUtf8 cluster clusters all) refl in
+    let rest = FitColumns-clusters pen clusters channels (All-tail IsUtf8 cluster clusters all) in
     record {
       formed = IsWellFormed-append _ _ first.formed rest.formed;
       short = simp length-append (omega (arith, first.short, rest.short));
     }
 
 -- the cells of a line are well formed, and no more than its bytes
-pub FitColumns-line : (line : List ℕ) (pen : Pen) → IsUtf8 line → FitColumns line (line_cells line pen)
+pub FitColumns-line : (line : List ℕ) (pen : Pen) → HasByteChannels pen → IsUtf8 line → FitColumns line (line_cells line pen)
 unfolding line_cells
-FitColumns-line line pen utf8 =
+FitColumns-line line pen channels utf8 =
     subst (λ text. FitColumns text (flat_map (cluster_columns pen) (graphemes true line))) (concat-segments (is_grapheme_break true) line utf8)
-    (FitColumns-clusters pen (graphemes true line) (IsUtf8-graphemes line utf8))
+    (FitColumns-clusters pen (graphemes true line) channels (IsUtf8-graphemes line utf8))
 
 -- the cell at the end changes
 pub cut_end-set : (cells : List CellValue) (n : ℕ) (d : CellValue) → length cells ≡ suc n → cut_end cells ≡ set cells n (without_tail (get_or cells n d))
@@ -236,48 +184,22 @@ pub length-cut_front : (cells : List CellValue) → length (cut_front cells) ≡
 length-cut_front [] = refl
 length-cut_front (cell ∷ cells) = refl
 
--- what is known of a cell that its own text makes
-pub record IsHead (cell : CellValue) : Type 0 where
-  pub head : cell.tail ≡ false
-  pub some : 0 < cell.width
-  pub few : cell.width ≤ 2
-
--- a cell that its own text makes is no tail, and has one or two columns
-pub IsHead-own : (cell : CellValue) → IsOfItsText cell → IsHead cell
-unfolding cell_of
-IsHead-own cell own = by_clusters (graphemes true cell.text) own.own
-  where
-    by_cluster : (cluster : List ℕ) → cluster_cell cluster cell.pen ≡ Some cell → IsHead cell
-    by_cluster cluster made = elim (cluster_cell-cases cluster cell.pen cell made) [
-      | inl blank_is ↦ rw blank_is (record { head = refl; some = omega arith; few = omega arith })
-      | inr others ↦ elim others [
-        | inl replacement_is ↦ rw replacement_is (record { head = refl; some = omega arith; few = omega arith })
-        | inr shows ↦ rw shows.is (record { head = refl; some = shows.some; few = shows.few })
-      ]
-    ]
-
-    by_clusters : (clusters : List (List ℕ)) → cell_of_clusters clusters cell.pen ≡ Some cell → IsHead cell
-    by_clusters [] made = cc
-    by_clusters (cluster ∷ []) made = by_cluster cluster made
-    by_clusters (first ∷ second ∷ more) made =
-        let is_replacement : cell ≡ replacement cell.pen = cc in rw is_replacement (record { head = refl; some = omega arith; few = omega arith })
-
 IsWellFormed-without_tail-by : (cell : CellValue) (is_wide : Bool) → nat_lt 1 cell.width ≡ is_wide → IsOfItsText cell → IsWellFormed (without_tail cell ∷ [])
-IsWellFormed-without_tail-by cell true wide own = rw wide (IsOfItsText-blank cell.pen, tt)
+IsWellFormed-without_tail-by cell true wide own = rw wide (IsOfItsText-blank cell.pen own.channels, tt)
 IsWellFormed-without_tail-by cell false narrow own = rw (narrow, narrow) (own, tt)
 
 -- what is owed is a tail
 OwesTail : Option CellValue → Type 0
 OwesTail None = Unit {0}
-OwesTail (Some tail) = tail ≡ tail_of tail.pen
+OwesTail (Some tail) = (tail ≡ tail_of tail.pen) × HasByteChannels tail.pen
 
-OwesTail-by : (cell : CellValue) (is_wide : Bool) → OwesTail (if is_wide then Some (tail_of cell.pen) else None)
+OwesTail-by : (cell : CellValue) (is_wide : Bool) → HasByteChannels cell.pen → OwesTail (if is_wide then Some (tail_of cell.pen) else None)
 unfolding OwesTail
-OwesTail-by cell true = refl
-OwesTail-by cell false = tt
+OwesTail-by cell true channels = (refl, channels)
+OwesTail-by cell false channels = tt
 
-OwesTail-owed_tail : (cell : CellValue) → OwesTail (owed_tail cell)
-OwesTail-owed_tail cell = OwesTail-by cell (nat_lt 1 cell.width)
+OwesTail-owed_tail : (cell : CellValue) → IsOfItsText cell → OwesTail (owed_tail cell)
+OwesTail-owed_tail cell own = OwesTail-by cell (nat_lt 1 cell.width) own.channels
 
 tail-without_tail : (cell tail : CellValue) → tail ≡ tail_of tail.pen → cell ≡ tail → without_tail cell ≡ tail
 tail-without_tail cell tail owes is = ap without_tail (is ∙ owes) ∙ sym owes
@@ -287,11 +209,11 @@ IsWellFormedAfter-cut_end : (cell : CellValue) (cells : List CellValue) (n : ℕ
     → IsWellFormedAfter owed (cell ∷ cells) → IsWellFormedAfter owed (cut_end (cell ∷ take n cells))
 unfolding OwesTail
 IsWellFormedAfter-cut_end cell cells zero None owes formed = IsWellFormed-without_tail-by cell (nat_lt 1 cell.width) refl formed.0
-IsWellFormedAfter-cut_end cell cells zero (Some tail) owes formed = (tail-without_tail cell tail owes formed.0, tt)
+IsWellFormedAfter-cut_end cell cells zero (Some tail) owes formed = (tail-without_tail cell tail owes.0 formed.0, tt)
 IsWellFormedAfter-cut_end cell [] (suc n) None owes formed = IsWellFormed-without_tail-by cell (nat_lt 1 cell.width) refl formed.0
-IsWellFormedAfter-cut_end cell [] (suc n) (Some tail) owes formed = (tail-without_tail cell tail owes formed.0, tt)
+IsWellFormedAfter-cut_end cell [] (suc n) (Some tail) owes formed = (tail-without_tail cell tail owes.0 formed.0, tt)
 IsWellFormedAfter-cut_end cell (next ∷ cells) (suc n) None owes formed =
-    (formed.0, IsWellFormedAfter-cut_end next cells n (owed_tail cell) (OwesTail-owed_tail cell) formed.1)
+    (formed.0, IsWellFormedAfter-cut_end next cells n (owed_tail cell) (OwesTail-owed_tail cell formed.0) formed.1)
 IsWellFormedAfter-cut_end cell (next ∷ cells) (suc n) (Some tail) owes formed = (formed.0, IsWellFormedAfter-cut_end next cells n None tt formed.1)
 
 pub IsWellFormed-cut_end : (n : ℕ) (cells : List CellValue) → IsWellFormed cells → IsWellFormed (cut_end (take n cells))
@@ -306,11 +228,12 @@ if_not false first second is = refl
 
 IsWellFormed-without_head : (cell : CellValue) (cells : List CellValue) → IsWellFormed (cell ∷ cells) → IsWellFormed (cut_front (cell ∷ cells))
 IsWellFormed-without_head cell cells formed =
-    subst (λ first. IsWellFormed (first ∷ cells)) (sym (if_not cell.tail (blank cell.pen) cell (IsHead-own cell formed.0).head)) formed
+    subst (λ first. IsWellFormed (first ∷ cells)) (sym (if_not cell.tail (blank cell.pen) cell (IsMade-own cell formed.0).head)) formed
 
-IsWellFormed-lone_tail : (cell tail : CellValue) (cells : List CellValue) → tail ≡ tail_of tail.pen → cell ≡ tail → IsWellFormed cells → IsWellFormed (cut_front (cell ∷ cells))
+IsWellFormed-lone_tail : (cell tail : CellValue) (cells : List CellValue) → OwesTail (Some tail) → cell ≡ tail → IsWellFormed cells → IsWellFormed (cut_front (cell ∷ cells))
+unfolding OwesTail
 IsWellFormed-lone_tail cell tail cells owes is formed =
-    subst (λ first. IsWellFormed (cut_front (first ∷ cells))) (sym (is ∙ owes)) (IsOfItsText-blank tail.pen, formed)
+    subst (λ first. IsWellFormed (cut_front (first ∷ cells))) (sym (is ∙ owes.0)) (IsOfItsText-blank tail.pen owes.1, formed)
 
 -- the cells behind a cut are well formed
 IsWellFormedAfter-cut_front : (n : ℕ) (cells : List CellValue) (owed : Option CellValue) → OwesTail owed → IsWellFormedAfter owed cells
@@ -320,7 +243,7 @@ IsWellFormedAfter-cut_front zero [] owed owes formed = tt
 IsWellFormedAfter-cut_front (suc n) [] owed owes formed = tt
 IsWellFormedAfter-cut_front zero (cell ∷ cells) None owes formed = IsWellFormed-without_head cell cells formed
 IsWellFormedAfter-cut_front zero (cell ∷ cells) (Some tail) owes formed = IsWellFormed-lone_tail cell tail cells owes formed.0 formed.1
-IsWellFormedAfter-cut_front (suc n) (cell ∷ cells) None owes formed = IsWellFormedAfter-cut_front n cells (owed_tail cell) (OwesTail-owed_tail cell) formed.1
+IsWellFormedAfter-cut_front (suc n) (cell ∷ cells) None owes formed = IsWellFormedAfter-cut_front n cells (owed_tail cell) (OwesTail-owed_tail cell formed.0) formed.1
 IsWellFormedAfter-cut_front (suc n) (cell ∷ cells) (Some tail) owes formed = IsWellFormedAfter-cut_front n cells None tt formed.1
 
 pub IsWellFormed-cut_front : (n : ℕ) (cells : List CellValue) → IsWellFormed cells → IsWellFormed (cut_front (drop n cells))
@@ -436,7 +359,7 @@ unfolding cluster_cell
 same_of_clusters [] p q = refl
 same_of_clusters (cluster ∷ []) p q =
     let width = str_width false (chars cluster) in
-    same_choice (is_tab cluster) (is_unfit (chars cluster)) (width == 0) (nat_lt 2 width || nat_lt 32 (length cluster)) cluster width p q
+    same_choice (is_tab cluster) (is_unfit (chars cluster)) (width == 0) (nat_lt 2 width || nat_lt most_bytes (length cluster)) cluster width p q
 same_of_clusters (first ∷ second ∷ more) p q = refl
 
 -- the columns of a text don't depend on the pen
@@ -444,29 +367,21 @@ pub same_columns : (cluster : List ℕ) (p q : Pen) → length (cluster_columns 
 unfolding cell_of
 same_columns cluster p q = same_of_clusters (graphemes true cluster) p q
 
-length-with_tail_width-by : (cell : CellValue) (is_wide : Bool) → nat_lt 1 cell.width ≡ is_wide → IsHead cell → length (with_tail cell) ≡ cell.width
-length-with_tail_width-by cell true wide head = let many = ltb-true 1 cell.width wide in rw wide (omega (arith, head.few))
-length-with_tail_width-by cell false narrow head = let few = ltb-false 1 cell.width narrow in rw narrow (omega (arith, head.some))
+length-with_tail_width-by : (pen : Pen) (cell : CellValue) (is_wide : Bool) → nat_lt 1 cell.width ≡ is_wide → IsMade pen cell → length (with_tail cell) ≡ cell.width
+length-with_tail_width-by pen cell true wide made = let many = ltb-true 1 cell.width wide in rw wide (omega (arith, made.few))
+length-with_tail_width-by pen cell false narrow made = let few = ltb-false 1 cell.width narrow in rw narrow (omega (arith, made.some))
 
 -- a cell takes the columns of its width
-pub length-with_tail_width : (cell : CellValue) → IsOfItsText cell → length (with_tail cell) ≡ cell.width
-length-with_tail_width cell own = length-with_tail_width-by cell (nat_lt 1 cell.width) refl (IsHead-own cell own)
-
--- a pen, where any will do
-abbrev pub any_pen : Pen
-any_pen = record {
-  fore = record { r = 0; g = 0; b = 0 };
-  back = record { r = 0; g = 0; b = 0 };
-  style = record { bold = false; dim = false; italic = false; underline = false; reverse = false; strike = false };
-}
+pub length-with_tail_width : (pen : Pen) (cell : CellValue) → IsMade pen cell → length (with_tail cell) ≡ cell.width
+length-with_tail_width pen cell made = length-with_tail_width-by pen cell (nat_lt 1 cell.width) refl made
 
 -- columns counted so far are no more than the bytes of the line
 pub columns_fit : (line cluster : List ℕ) (rest : List (List ℕ)) (before here : ℕ) → IsUtf8 line
-    → before + length (flat_map (cluster_columns any_pen) (cluster ∷ rest)) ≡ length (line_cells line any_pen)
-    → here ≡ length (cluster_columns any_pen cluster) → before + here ≤ length line
+    → before + length (flat_map (cluster_columns white_on_black) (cluster ∷ rest)) ≡ length (line_cells line white_on_black)
+    → here ≡ length (cluster_columns white_on_black cluster) → before + here ≤ length line
 columns_fit line cluster rest before here utf8 total is =
-    let fit = FitColumns-line line any_pen utf8 in
-    let parts = length-append (cluster_columns any_pen cluster) (flat_map (cluster_columns any_pen) rest) in
+    let fit = FitColumns-line line white_on_black white_on_black-channels utf8 in
+    let parts = length-append (cluster_columns white_on_black cluster) (flat_map (cluster_columns white_on_black) rest) in
     omega (arith, fit.short, parts, total, is)
 
 -- the cells of one head more

@@ -12,7 +12,7 @@ use Rattle.std.specs.Prelude.{Option, Some, None, ◌==◌}
 use Rattle.tx_cell.specs.Cell.{CellValue, IsOfItsText, blank, cell_of}
 use Rattle.tx_cell.specs.Strip.{with_tail}
 use Rattle.tx_cell.specs.Wrap.{is_blank_text, is_blank, columns, fit_count, later_blank, last_blank, trimmed, skip_blanks, broken_at, next_line, lines_until, with_tails, AreLinesOf}
-use Rattle.tx_cell.proofs.CellLemmas.{IsOfItsText-blank}
+use Rattle.tx_cell.proofs.lemmas.MadeCells.{IsMade-own, IsOfItsText-blank}
 use Rattle.tx_cell.proofs.StripLemmas.{length-with_tail_width}
 use Rattle.tx_cell.proofs.WrapLemmas.{columns-fit, next_line-fits, next_line-breaks}
 
@@ -174,7 +174,7 @@ with_tails-columns : (cells : List CellValue) → All IsOfItsText cells → leng
 with_tails-columns [] own = refl
 with_tails-columns (cell ∷ cells) own =
     length-append (with_tail cell) (with_tails cells)
-    ∙ ap₂ ◌+◌ (length-with_tail_width cell (All-head IsOfItsText cell cells own)) (with_tails-columns cells (All-tail IsOfItsText cell cells own))
+    ∙ ap₂ ◌+◌ (length-with_tail_width cell.pen cell (IsMade-own cell (All-head IsOfItsText cell cells own))) (with_tails-columns cells (All-tail IsOfItsText cell cells own))
     ∙ sym (sum_by-cons (λ (c : CellValue). c.width) cell cells)
 
 -- the cells with their tails are as many as their columns
@@ -252,7 +252,7 @@ blank_text (first ∷ second ∷ text) is = cc
 blank_cell : (cell : CellValue) → IsOfItsText cell → is_blank cell ≡ true → cell ≡ blank cell.pen
 blank_cell cell own is =
     let text = blank_text cell.text is in
-    let made = sym own.own ∙ ap (λ t. cell_of t cell.pen) text ∙ (IsOfItsText-blank cell.pen).own in
+    let made = sym own.own ∙ ap (λ t. cell_of t cell.pen) text ∙ (IsOfItsText-blank cell.pen own.channels).own in
     cc
 
 with_tail-blank : (cell : CellValue) → IsOfItsText cell → is_blank cell ≡ true → with_tail cell ≡ cell ∷ []

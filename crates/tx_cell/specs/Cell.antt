@@ -5,7 +5,8 @@ use Rattle.std.specs.List.{list_any}
 use Rattle.std.specs.Str.{chars, is_utf8}
 use Rattle.unicode_segmentation.specs.Grapheme.{graphemes}
 use Rattle.unicode_width.specs.Width.{str_width}
-use Rattle.tx_cell.specs.Plain.{is_plain}
+use Rattle.tx_cell.specs.Pen.{HasByteChannels}
+use Rattle.tx_cell.specs.Plain.{begins_plain, is_plain}
 use Rattle.tx_cell.specs.declared.pen.Pen.{Pen}
 
 -- a cell: the bytes of its text, the columns that it takes, whether it is the tail of a wide cell, and its pen
@@ -14,6 +15,10 @@ pub record CellValue : Type 0 where
   pub width : ℕ
   pub tail : Bool
   pub pen : Pen
+
+-- the most bytes that the text of a cell has
+abbrev pub most_bytes : ℕ
+most_bytes = 32
 
 -- the cell that shows a text in so many columns
 abbrev pub shown : List ℕ → ℕ → Pen → CellValue
@@ -36,10 +41,6 @@ abbrev pub is_tab : List ℕ → Bool
 is_tab (byte ∷ []) = byte == 9
 is_tab _ = false
 
-abbrev pub begins_plain : List ℕ → Bool
-begins_plain [] = false
-begins_plain (first ∷ _) = is_plain first
-
 -- the first character is plain, and another one is
 abbrev pub joins_plain : List ℕ → Bool
 joins_plain characters = begins_plain characters && nat_lt 1 (count_by is_plain characters)
@@ -52,7 +53,7 @@ is_unfit characters = list_any is_control characters || joins_plain characters
 abbrev pub cell_by_width : List ℕ → ℕ → Pen → Option CellValue
 cell_by_width cluster width pen =
     if width == 0 then None
-    else if nat_lt 2 width || nat_lt 32 (length cluster) then Some (replacement pen)
+    else if nat_lt 2 width || nat_lt most_bytes (length cluster) then Some (replacement pen)
     else Some (shown cluster width pen)
 
 -- the cell of a grapheme cluster, if it has one: a tab is a blank
@@ -72,19 +73,31 @@ cell_of_clusters (_ ∷ _) pen = Some (replacement pen)
 unfoldable pub cell_of : List ℕ → Pen → Option CellValue
 cell_of text pen = cell_of_clusters (graphemes true text) pen
 
--- the cell is the one that its own text makes
+-- what a text makes: a cell of one column or two, whose text has no control character and doesn't join two plain ones
+pub record IsMade (pen : Pen) (cell : CellValue) : Type 0 where
+  pub head : cell.tail ≡ false
+  pub some : 1 ≤ cell.width
+  pub few : cell.width ≤ 2
+  pub pen_is : cell.pen ≡ pen
+  pub short : length cell.text ≤ most_bytes
+  pub shown : list_any is_control (chars cell.text) ≡ false
+  pub apart : joins_plain (chars cell.text) ≡ false
+
+-- the cell is the one that its own text makes, in a pen whose channels are bytes
 pub record IsOfItsText (cell : CellValue) : Type 0 where
+  pub channels : HasByteChannels cell.pen
   pub utf8 : is_utf8 cell.text ≡ true
   pub own : cell_of cell.text cell.pen ≡ Some cell
 
--- a cell is a tail or the one that its own text makes
+-- a cell is a tail or the one that its own text makes, in a pen whose channels are bytes
 pub record IsCell (cell : CellValue) : Type 0 where
+  pub channels : HasByteChannels cell.pen
   pub tail : cell.tail ≡ true → cell ≡ tail_of cell.pen
   pub text : cell.tail ≡ false → IsOfItsText cell
 
 -- a cell kept as an array, whose spare bytes are 0, and the length of its text
 pub record IsStored (bytes : List ℕ) (len : ℕ) (cell : CellValue) : Type 0 where
-  pub fits : len ≤ 32
-  pub whole : length bytes ≡ 32
-  pub spare : drop len bytes ≡ replicate (32 - len) 0
+  pub fits : len ≤ most_bytes
+  pub whole : length bytes ≡ most_bytes
+  pub spare : drop len bytes ≡ replicate (most_bytes - len) 0
   pub seen : IsCell cell

@@ -1,22 +1,21 @@
 //! Cells: one grapheme cluster each, or the second column of a wide one.
 
-ghost use Rattle.std.specs.Prelude.{◌≡◌, ◌↔◌, IsTrue, true, [], ◌∷◌, ◌<◌, ◌≤◌, length, count_by};
+ghost use Rattle.std.specs.Prelude.{◌≡◌, ◌↔◌, IsTrue, true, [], ◌∷◌, ◌<◌, ◌≤◌, length, count_by, IfSome};
 ghost use Rattle.std.specs.List.{list_any};
 ghost use Rattle.std.specs.Char.{is_control};
 ghost use Rattle.std.specs.Str.{chars};
 ghost use Rattle.unicode_segmentation.specs.Grapheme.{graphemes};
-ghost use Rattle.tx_cell.specs.Cell.{IsCell, IsOfItsText, shown, blank, replacement, tail_of, cluster_cell, cell_by_width, cell_of, is_tab, begins_plain, is_unfit};
+ghost use Rattle.tx_cell.specs.Cell.{IsCell, IsMade, IsOfItsText, shown, blank, replacement, tail_of, cluster_cell, cell_by_width, cell_of, is_tab, is_unfit, most_bytes};
+ghost use Rattle.tx_cell.specs.Pen.{HasByteChannels};
 ghost use Rattle.tx_cell.specs.Plain.{is_plain, is_printable};
 ghost use Rattle.tx_cell.specs.Strip.{without_head, without_tail};
 
 use crate::Pen;
+use crate::plain::{begins_plain, is_plain};
 use std::marker::Model;
 use std::str;
 use unicode_segmentation::UnicodeSegmentation;
 use unicode_width::UnicodeWidthStr;
-
-// The most bytes that the text of a cell has.
-const TEXT_BYTES: usize = 32;
 
 /// One column of a screen: a grapheme cluster with its pen, or the tail of a wide cluster, which
 /// has no text.
@@ -25,7 +24,7 @@ const TEXT_BYTES: usize = 32;
 /// and 0 for a tail.
 #[derive(Clone, Copy)]
 pub struct Cell {
-    bytes: [u8; TEXT_BYTES],
+    bytes: [u8; Cell::MOST_BYTES],
     len: u8,
     width: u8,
     pen: Pen,
@@ -33,7 +32,7 @@ pub struct Cell {
 
 impl Model for Cell {
     ghost use Rattle.std.specs.Prelude.{◌==◌, ◌-◌, ◌++◌, length, take, replicate};
-    ghost use Rattle.tx_cell.specs.Cell.{CellValue, IsStored};
+    ghost use Rattle.tx_cell.specs.Cell.{CellValue, IsStored, most_bytes};
     ghost use Rattle.tx_cell.specs.Stored.{padded, length-stored};
 
     ghost Value = { CellValue };
@@ -42,12 +41,15 @@ impl Model for Cell {
 
     ghost invariant = { λ c. IsStored c.bytes c.len (record { text = take c.len c.bytes; width = c.width; tail = c.width == 0; pen = c.pen }) };
 
-    ghost inverse = { λ v. record { bytes = v.text ++ replicate (32 - length v.text) 0; len = length v.text; width = v.width; pen = v.pen } };
+    ghost inverse = { λ v. record { bytes = v.text ++ replicate (most_bytes - length v.text) 0; len = length v.text; width = v.width; pen = v.pen } };
 
     ghost inverse_ok = { λ c h i. record { bytes = padded c.bytes c.len _ h i; len = length-stored c.bytes c.len _ h i; width = c.width; pen = c.pen } };
 }
 
 impl Cell {
+    /// The most bytes that the text of a cell has.
+    pub const MOST_BYTES: usize = 32;
+
     /// The cell of a text that is one grapheme cluster.
     ///
     /// A tab is a blank. U+FFFD of width 1 stands for a cluster with another control character,
@@ -57,6 +59,7 @@ impl Cell {
     #[tactic(auto, unfolding(crate::specs::Cell::cell_of))]
     pub fn of(cluster: &str, pen: Pen) -> Option<Cell>
         ensures cell { result ≡ cell_of cluster.now pen }
+        ensures made { IfSome result (λ cell. IsMade pen cell) }
     {
         // Most texts are a printable ASCII character, which needs no look into the tables.
         if let [byte @ 0x20..=0x7E] = cluster.as_bytes() {
@@ -81,7 +84,7 @@ impl Cell {
         requires { is_printable byte ≡ true }
         ensures cell { result ≡ shown (byte ∷ []) 1 pen }
     {
-        let mut bytes = [0; TEXT_BYTES];
+        let mut bytes = [0; Cell::MOST_BYTES];
         bytes[0] = byte;
         Cell {
             bytes,
@@ -96,7 +99,7 @@ impl Cell {
         ensures cell { result ≡ tail_of pen }
     {
         Cell {
-            bytes: [0; TEXT_BYTES],
+            bytes: [0; Cell::MOST_BYTES],
             len: 0,
             width: 0,
             pen,
@@ -107,7 +110,7 @@ impl Cell {
     pub(crate) fn replacement(pen: Pen) -> Cell
         ensures cell { result ≡ replacement pen }
     {
-        let mut bytes = [0; TEXT_BYTES];
+        let mut bytes = [0; Cell::MOST_BYTES];
         bytes[0] = 0xEF;
         bytes[1] = 0xBF;
         bytes[2] = 0xBD;
@@ -135,12 +138,12 @@ impl Cell {
 
     // The cell of a cluster of so many columns that is fit to be shown.
     fn by_width(cluster: &str, width: usize, pen: Pen) -> Option<Cell>
-        requires own { 0 < width → width ≤ 2 → length cluster.now ≤ 32 → IsOfItsText (shown cluster.now width pen) }
+        requires own { 0 < width → width ≤ 2 → length cluster.now ≤ most_bytes → IsOfItsText (shown cluster.now width pen) }
         ensures cell { result ≡ cell_by_width cluster.now width pen }
     {
         if width == 0 {
             None
-        } else if width > 2 || cluster.len() > TEXT_BYTES {
+        } else if width > 2 || cluster.len() > Cell::MOST_BYTES {
             Some(Cell::replacement(pen))
         } else {
             Some(Cell::shown(cluster, width as u8, pen))
@@ -148,12 +151,12 @@ impl Cell {
     }
 
     fn shown(cluster: &str, width: u8, pen: Pen) -> Cell
-        requires fits { length cluster.now ≤ 32 }
+        requires fits { length cluster.now ≤ most_bytes }
         requires own { IsOfItsText (shown cluster.now width pen) }
         requires visible { 0 < width }
         ensures cell { result ≡ shown cluster.now width pen }
     {
-        let mut bytes = [0; TEXT_BYTES];
+        let mut bytes = [0; Cell::MOST_BYTES];
         let len = cluster.len();
         bytes[..len].copy_from_slice(cluster.as_bytes());
         Cell {
@@ -167,7 +170,7 @@ impl Cell {
     /// The text: one grapheme cluster, or nothing for a tail.
     pub fn text(&self) -> &str
         ensures text { result.now ≡ self.now.text }
-        ensures short { length result.now ≤ 32 }
+        ensures short { length result.now ≤ most_bytes }
         ensures known { IsCell self.now }
     {
         let text = &self.bytes[..self.len as usize];
@@ -200,6 +203,7 @@ impl Cell {
     /// The pen, of a tail too.
     pub fn pen(&self) -> Pen
         ensures pen { result ≡ self.now.pen }
+        ensures channels { HasByteChannels result }
     {
         self.pen
     }
@@ -250,26 +254,10 @@ fn is_tab(cluster: &str) -> bool
     matches!(cluster.as_bytes(), [b'\t'])
 }
 
-// A character that a terminal shows in one column whatever stands beside it.
-fn is_plain(character: char) -> bool
-    ensures { result ≡ is_plain character }
-{
-    matches!(character, '\u{20}'..='\u{7E}' | '\u{2500}'..='\u{259F}')
-}
-
 fn has_control(cluster: &str) -> bool
     ensures { result ≡ list_any is_control (chars cluster.now) }
 {
     cluster.chars().any(|character| character.is_control())
-}
-
-fn begins_plain(cluster: &str) -> bool
-    ensures { result ≡ begins_plain (chars cluster.now) }
-{
-    match cluster.chars().next() {
-        None => false,
-        Some(first) => is_plain(first),
-    }
 }
 
 fn plain_count(cluster: &str) -> usize

@@ -12,6 +12,7 @@ mod grid;
 pub mod laws;
 mod lines;
 mod pen;
+mod plain;
 mod strip;
 mod wrapping;
 
@@ -19,8 +20,10 @@ pub use cell::Cell;
 pub use columns::{align, measure};
 pub use grid::Grid;
 pub use lines::{Lines, lines_of};
-pub use pen::{Pen, TextStyle};
+pub use pen::Pen;
+pub use plain::{begins_plain, is_plain};
 pub use strip::{Cropped, Strip, cells_of, join};
+pub use tx_geom::TextStyle;
 pub use wrapping::wrap;
 
 #[cfg(test)]

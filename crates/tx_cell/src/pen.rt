@@ -2,19 +2,7 @@
 
 ghost use Rattle.std.specs.Prelude.{◌≡◌, ◌↔◌, IsTrue};
 
-use tx_geom::Rgb;
-
-/// The marks of a text, each set or not.
-#[derive(Clone, Copy, Debug, Default, PartialEq, Eq, Hash)]
-pub struct TextStyle {
-    pub bold: bool,
-    pub dim: bool,
-    pub italic: bool,
-    pub underline: bool,
-    /// The two colours are changed for one another.
-    pub reverse: bool,
-    pub strike: bool,
-}
+use tx_geom::{Rgb, TextStyle};
 
 /// How a cell is drawn: the colour of its text, the colour behind it, and the marks of its text.
 #[derive(Clone, Copy, Debug, Default)]
@@ -22,6 +10,19 @@ pub struct Pen {
     pub fore: Rgb,
     pub back: Rgb,
     pub style: TextStyle,
+}
+
+impl Pen {
+    /// White on black, without marks: what a screen begins with.
+    pub const WHITE_ON_BLACK: Pen = Pen {
+        fore: Rgb {
+            r: 0xff,
+            g: 0xff,
+            b: 0xff,
+        },
+        back: Rgb { r: 0, g: 0, b: 0 },
+        style: TextStyle::PLAIN,
+    };
 }
 
 impl PartialEq for Pen {

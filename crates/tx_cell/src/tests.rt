@@ -4,7 +4,8 @@ ghost use Rattle.std.specs.Prelude.{◌≡◌, ◌+◌, ◌<◌, ◌≤◌, ◌^
 ghost use Rattle.tx_cell.specs.Strip.{joined};
 
 use crate::{
-    Cell, Cropped, Grid, Pen, Strip, TextStyle, align, cells_of, join, lines_of, measure, wrap,
+    Cell, Cropped, Grid, Pen, Strip, TextStyle, align, begins_plain, cells_of, is_plain, join,
+    lines_of, measure, wrap,
 };
 use std::alloc::{AllocError, Global};
 use std::process::Abort;
@@ -93,6 +94,25 @@ fn clusters_have_their_cells(rt: HostRuntime) {
         ("\u{AD}", None),
     ] {
         check_cell(&rt, text, expected);
+    }
+}
+
+#[test]
+fn plain_characters_are_told(rt: HostRuntime) {
+    for (character, expected) in [
+        ('\u{1F}', false),
+        (' ', true),
+        ('~', true),
+        ('\u{7F}', false),
+        ('\u{24FF}', false),
+        ('\u{2500}', true),
+        ('\u{259F}', true),
+        ('\u{25A0}', false),
+    ] {
+        assert_eq!(rt; is_plain(character), expected, "{character:?}");
+    }
+    for (text, expected) in [("", false), ("a\u{301}", true), ("\u{301}a", false)] {
+        assert_eq!(rt; begins_plain(text), expected, "{text:?}");
     }
 }
 
@@ -354,7 +374,6 @@ fn put(rt: &impl Abort, grid: &mut Grid, x: u32, text: &str, red: u8) {
     if let Some(cell) = Cell::of(text, pen(red)) {
         let size = grid.size();
         assert!(rt; size.height > 0 && x < size.width && cell.width() <= size.width - x);
-        assert!(rt; !cell.tail());
         grid.put(x, 0, cell);
     }
 }
@@ -440,7 +459,7 @@ fn check_taken_back(
     grid.take_over(&before);
     if let Some(cell) = Cell::of(text, pen(5)) {
         let columns = x as u64 + cell.width() as u64;
-        assert!(rt; !cell.tail() && cell.width() >= 1 && columns <= size.width as u64);
+        assert!(rt; columns <= size.width as u64);
         put_and_take_back(&mut grid, &before, x, cell);
     }
     check_row(rt, alloc, &grid, 0, "\u{4E16}|.|\u{4E16}|.| |")

@@ -1,4 +1,4 @@
-use Rattle.tx_cell.proofs.MadeLemmas.{cell_of-nothing}
+use Rattle.tx_cell.proofs.lemmas.MadeCells.{cell_of-nothing}
 use Rattle.tx_cell.proofs.laws.nothing_makes_no_cell.Goals as goal
 
 pub returns : goal.returns

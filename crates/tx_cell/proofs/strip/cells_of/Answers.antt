@@ -12,7 +12,7 @@ all_cells c = search rules
 
 pub invariant_of-result : goal.invariant_of-result
 invariant_of-result c =
-    let fit = FitColumns-line c.args.line.now c.args.pen c.utf8.line in
+    let fit = FitColumns-line c.args.line.now c.args.pen (search rules) c.utf8.line in
     let small : length (line_cells c.args.line.now c.args.pen) < 2 ^ 32 = omega (arith, fit.short, c.requires) in
     rw (all_cells c) (record { formed = fit.formed; short = small })
 

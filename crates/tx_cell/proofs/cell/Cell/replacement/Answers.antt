@@ -1,4 +1,4 @@
-use Rattle.std.proofs.Common.{refl, lit≤}
+use Rattle.std.proofs.Common.{refl, lit≤, rules}
 use Rattle.tx_cell.proofs.CellLemmas.{IsOfItsText-replacement}
 use Rattle.tx_cell.proofs.cell.Cell.replacement.Goals as goal
 
@@ -7,5 +7,5 @@ invariant_of-result c = record {
   fits = lit≤ tt;
   whole = refl;
   spare = refl;
-  seen = record { tail = λ impossible. cc; text = λ _. IsOfItsText-replacement c.args.pen };
+  seen = record { channels = search rules; tail = λ impossible. cc; text = λ _. IsOfItsText-replacement c.args.pen (search rules) };
 }
