@@ -1,11 +1,11 @@
 -- Held cells that are put.
 use Rattle.std.proofs.Common.{◌≡◌, ◌≤◌, ◌<◌, ◌+◌, ℕ, [], Bool, true, false, refl, arith, ap, sym, ◌∙◌, Option, Some, None, cond, nat_le}
 use Rattle.std.proofs.lemmas.Bool.{leb-true}
-use Rattle.tx_cell.proofs.MadeLemmas.{cell_of-nothing}
+use Rattle.tx_cell.proofs.lemmas.MadeCells.{cell_of-nothing}
 use Rattle.tx_cell.specs.Cell.{CellValue, blank, cell_of}
 use Rattle.tx_cell.specs.declared.pen.Pen.{Pen}
 use Rattle.tx_geom.specs.declared.places.Size.{Size}
-use Rattle.tx_term.specs.Sequence.{default_pen}
+use Rattle.tx_cell.specs.Pen.{white_on_black}
 use Rattle.tx_cell.specs.Grid.{GridValue, filled}
 use Rattle.tx_term.specs.Canvas.{CanvasValue, IsInside, IsKept, fitting, held_cell, drawn, columns_of, put_held, shown_grid, erased, opened_canvas}
 
@@ -60,7 +60,7 @@ IsKept-erased shown canvas nothing kept = record {
   shown_is = ap (λ (g : GridValue). filled g.size (blank canvas.pen)) (kept.shown_is ∙ shown_grid-nothing canvas nothing) ∙ sym (shown_grid-nothing (erased canvas) nothing);
 }
 
-pub IsKept-opened : (size : Size) → 1 ≤ size.height → IsKept (filled size (blank default_pen)) (opened_canvas size)
+pub IsKept-opened : (size : Size) → 1 ≤ size.height → IsKept (filled size (blank white_on_black)) (opened_canvas size)
 IsKept-opened size some = record { inside = record { row = omega (arith, some); column = omega arith }; shown_is = sym (shown_grid-nothing (opened_canvas size) refl) }
 
 -- another cursor

@@ -6,7 +6,7 @@ use Rattle.std.proofs.lemmas.Grind.{common_steps}
 use Rattle.tx_cell.specs.Cell.{CellValue}
 use Rattle.tx_cell.specs.declared.pen.Pen.{Pen}
 use Rattle.tx_term.specs.Drawing.{Draws, DrawsColumn, pen_after, rest_marks, first_run_marks, unit_marks}
-use Rattle.tx_io.specs.Sending.{SinkSeen}
+use Rattle.tx_io.specs.Sink.{SinkSeen}
 use Rattle.tx_term.specs.Gather.{Gathered, Adds}
 use Rattle.tx_term.specs.Update.{Mark, Move, Write, written, move_bytes, cell_bytes, Unit, runs, longer, run_marks, is_plain_cell, units, unit_differs, row_marks, rows_marks}
 use Rattle.tx_term.specs.declared.update.writer.Writer.{Writer}

@@ -1,11 +1,10 @@
 -- Bytes that are read one behind another, and sequences.
-use Rattle.std.proofs.Common.{◌≡◌, ◌≤◌, ◌<◌, ◌+◌, ◌==◌, ℕ, List, [], ◌∷◌, ◌++◌, length, drop, fold, Bool, true, false, refl, arith, ap, sym, ◌∙◌, ◌&&◌, cond, nat_le, nat_lt, append_assoc, append-nil, length-append, None}
-use Rattle.std.proofs.lemmas.Bool.{leb-true, lt-ltb, lt-leb, ne_eqb}
+use Rattle.std.proofs.Common.{◌≡◌, ◌≤◌, ◌<◌, ◌+◌, ◌==◌, ℕ, List, [], ◌∷◌, ◌++◌, length, drop, fold, true, false, refl, arith, ap, sym, ◌∙◌, cond, nat_le, nat_lt, append_assoc, append-nil, length-append, None}
+use Rattle.std.proofs.lemmas.Bool.{and_from, and_parts, and_right, le-leb, leb-true, lt-ltb, lt-leb, ne_eqb}
 use Rattle.std.specs.Int.{is_in_range}
 use Rattle.std.specs.List.{list_all}
-use Rattle.tx_cell.proofs.MadeLemmas.{cell_of-nothing}
+use Rattle.tx_cell.proofs.lemmas.MadeCells.{cell_of-nothing}
 use Rattle.tx_cell.specs.Cell.{cell_of}
-use Rattle.tx_cell.specs.Pen.{and_first, and_second}
 use Rattle.tx_term.specs.Canvas.{CanvasValue, put_held, held_cell, fitting, drawn, columns_of}
 use Rattle.tx_term.specs.Machine.{Machine, fed, step, ended, run, stage_of, longer_by}
 use Rattle.tx_term.specs.Sequence.{command_of}
@@ -58,9 +57,12 @@ pub step-cancel : (machine : Machine) → step machine 24 ≡ ended machine
 unfolding step
 step-cancel machine = refl
 
--- bytes in a range and one below it
+-- bytes in a range
+pub within : (low high a : ℕ) → low ≤ a → a ≤ high → is_in_range low high a ≡ true
+within low high a above below = and_from _ _ (le-leb low a above) (le-leb a high below)
+
 pub in_range : (low high a : ℕ) → is_in_range low high a ≡ true → (low ≤ a) × (a ≤ high)
-in_range low high a inside = (leb-true low a (and_first _ _ inside), leb-true a high (and_second _ _ inside))
+in_range low high a inside = let both = and_parts _ _ inside in (leb-true low a both.0, leb-true a high both.1)
 
 pub not_equal : (a b low high : ℕ) → is_in_range low high a ≡ true → b < low → (a == b) ≡ false
 not_equal a b low high inside below = ne_eqb a b (λ same. absurd (omega (arith, (in_range low high a inside).0)))
@@ -78,12 +80,7 @@ step-parameter machine parameters byte unfinished inside short =
 
 out_of_range : (a low high below : ℕ) → is_in_range low high a ≡ true → below < low → is_in_range 0x20 below a ≡ false
 out_of_range a low high below inside under =
-    let past : nat_le a below ≡ false = lt-leb a below (omega (arith, (in_range low high a inside).0)) in
-    second_false (nat_le 0x20 a) _ past
-  where
-    second_false : (b c : Bool) → c ≡ false → (b && c) ≡ false
-    second_false true c is = is
-    second_false false c is = refl
+    and_right (nat_le 0x20 a) _ (lt-leb a below (omega (arith, (in_range low high a inside).0)))
 
 -- the bytes between the brackets and the end
 abbrev pub AreParameters : List ℕ → Type 0
@@ -95,8 +92,8 @@ fed-parameters [] before machine unfinished all short =
     fed-nothing machine ∙ ap (λ u. record machine { unfinished = u }) (unfinished ∙ ap (λ b. 27 ∷ 91 ∷ b) (sym (append-nil before)))
 fed-parameters (byte ∷ bytes) before machine unfinished all short =
     fed-cons machine byte bytes
-    ∙ ap (λ m. fed m bytes) (step-parameter machine before byte unfinished (and_first _ _ all) (omega (arith, short)))
-    ∙ fed-parameters bytes (before ++ byte ∷ []) (record machine { unfinished = 27 ∷ 91 ∷ (before ++ byte ∷ []) }) refl (and_second _ _ all)
+    ∙ ap (λ m. fed m bytes) (step-parameter machine before byte unfinished (and_parts _ _ all).0 (omega (arith, short)))
+    ∙ fed-parameters bytes (before ++ byte ∷ []) (record machine { unfinished = 27 ∷ 91 ∷ (before ++ byte ∷ []) }) refl (and_parts _ _ all).1
     (omega (arith, short, length-append before (byte ∷ [])))
     ∙ ap (λ b. record machine { unfinished = 27 ∷ 91 ∷ b }) (append_assoc before (byte ∷ []) bytes)
 

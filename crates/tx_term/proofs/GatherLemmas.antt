@@ -6,7 +6,8 @@ use Rattle.std.proofs.lemmas.List.{append_cancel_left}
 use Rattle.std.specs.Io.KnownBytes.{append_known}
 use Rattle.tx_io.specs.declared.send.Sent.{Sent}
 use Rattle.tx_io.specs.Faults.{raised}
-use Rattle.tx_io.specs.Sending.{Sends, SinkSeen, seen}
+use Rattle.tx_io.specs.Sending.{Sends}
+use Rattle.tx_io.specs.Sink.{SinkSeen}
 use Rattle.tx_term.specs.Gather.{Gathered, Queues, Adds}
 
 -- one piece behind another
@@ -30,12 +31,12 @@ taken-bound n false len all part = omega (arith, all refl)
 taken-bound n true len all part = omega (arith, part refl)
 
 -- what waited was sent
-pub Queues-sent : (before : SinkSeen) (told told' : Option (List ℕ)) (faults faults' : ℕ) (all : List ℕ) (g : Gathered) (sent : Sent)
+pub Queues-sent : (before sink_old sink_new : SinkSeen) (all : List ℕ) (g : Gathered) (sent : Sent)
     → g.failed ≡ false
-    → Sends (seen told faults) (seen told' faults') g.waiting sent
-    → Queues before (seen told faults) all g
-    → Queues before (seen told' faults') (all ++ []) (record { waiting = []; taken = g.taken + sent.taken; failed = sent.failed })
-Queues-sent before told told' faults faults' all g sent good sends q =
+    → Sends sink_old sink_new g.waiting sent
+    → Queues before sink_old all g
+    → Queues before sink_new (all ++ []) (record { waiting = []; taken = g.taken + sent.taken; failed = sent.failed })
+Queues-sent before sink_old sink_new all g sent good sends q =
     let k : ℕ = g.taken in
     let split : all ≡ take k all ++ g.waiting = q.waits good in
     let rest : drop k all ≡ g.waiting = waiting_is_rest all g.waiting k split in
@@ -43,7 +44,7 @@ Queues-sent before told told' faults faults' all g sent good sends q =
     let none : all ++ [] ≡ all = append-nil all in
     let front : take (k + sent.taken) all ≡ take k all ++ take sent.taken g.waiting =
     take-add k sent.taken all ∙ ap (λ r. take k all ++ take sent.taken r) rest in
-    let quiet : faults ≡ before.faults = q.faults ∙ ap (λ b. raised before.faults (cond b 1 0)) good ∙ raised-none before.faults in
+    let quiet : sink_old.faults ≡ before.faults = q.faults ∙ ap (λ b. raised before.faults (cond b 1 0)) good ∙ raised-none before.faults in
     rw none (record {
       content = sends.content ∙ ap (λ t. append_known t (take sent.taken g.waiting)) q.content
           ∙ append_known-append before.told (take k all) (take sent.taken g.waiting)
@@ -93,15 +94,15 @@ taken_all all waiting k within split none =
     omega (arith, ap length none, length-take-le k all within)
 
 -- to the end
-pub Sends-from_Adds : (told told' : Option (List ℕ)) (faults faults' : ℕ) (all : List ℕ) (g : Gathered) (sent : Sent)
-    → Adds (seen told faults) (seen told' faults') (record { waiting = []; taken = 0; failed = false }) g all
+pub Sends-from_Adds : (sink_old sink_new : SinkSeen) (all : List ℕ) (g : Gathered) (sent : Sent)
+    → Adds sink_old sink_new (record { waiting = []; taken = 0; failed = false }) g all
     → (g.failed ≡ false → g.waiting ≡ []) → sent.taken ≡ g.taken → sent.failed ≡ g.failed
-    → Sends (seen told faults) (seen told' faults') all sent
-Sends-from_Adds told told' faults faults' all g sent added empty taken failed =
-    let q = added.behind (seen told faults) [] (Queues-start (seen told faults)) in
+    → Sends sink_old sink_new all sent
+Sends-from_Adds sink_old sink_new all g sent added empty taken failed =
+    let q = added.behind sink_old [] (Queues-start sink_old) in
     record {
-      content = q.content ∙ ap (λ n. append_known told (take n all)) (sym taken);
+      content = q.content ∙ ap (λ n. append_known sink_old.told (take n all)) (sym taken);
       all = λ whole. let good : g.failed ≡ false = sym failed ∙ whole in taken ∙ taken_all all g.waiting g.taken q.within (q.waits good) (empty good);
       part = λ cut. let lost : g.failed ≡ true = sym failed ∙ cut in let short : g.taken < length all = q.lost lost in omega (arith, taken);
-      faults = q.faults ∙ ap (λ b. raised faults (cond b 1 0)) (sym failed);
+      faults = q.faults ∙ ap (λ b. raised sink_old.faults (cond b 1 0)) (sym failed);
     }

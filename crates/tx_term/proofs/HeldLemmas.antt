@@ -1,6 +1,6 @@
 -- The text of a cell, as it is held.
 use Rattle.std.proofs.Common.{◌≡◌, ◌≤◌, ◌+◌, ◌==◌, ℕ, List, [], ◌∷◌, ◌++◌, length, Bool, true, false, refl, arith, ap, sym, ◌∙◌, ◌&&◌, cond, nat_lt, append_assoc, append-nil, length-append}
-use Rattle.std.proofs.lemmas.Bool.{le-ltb, ltb-false, eqb-true}
+use Rattle.std.proofs.lemmas.Bool.{and_parts, le-ltb, ltb-false, eqb-true}
 use Rattle.std.proofs.lemmas.List.Recursion.{is_count_by}
 use Rattle.std.proofs.lemmas.Str.{IsUtf8-from_is_utf8, chars-encodes, chars-nil, encodes-append, length-encode, len_utf8_bounds}
 use Rattle.std.specs.Char.{is_control}
@@ -8,11 +8,9 @@ use Rattle.std.specs.List.{list_any, list_all}
 use Rattle.std.specs.Str.{chars}
 use mathlib.Core.Logic.{◌⊎◌, inl, inr}
 use lib.Utf8.{scalar, scalars, encode, encodes}
-use Rattle.tx_cell.proofs.MadeLemmas.{cell_of-IsMade}
-use Rattle.tx_cell.specs.Cell.{CellValue, IsOfItsText, begins_plain, joins_plain}
-use Rattle.tx_cell.specs.Laws.{IsMade}
-use Rattle.tx_cell.specs.Pen.{and_first, and_second}
-use Rattle.tx_cell.specs.Plain.{is_plain}
+use Rattle.tx_cell.proofs.lemmas.MadeCells.{IsMade-own}
+use Rattle.tx_cell.specs.Cell.{CellValue, IsMade, IsOfItsText, joins_plain}
+use Rattle.tx_cell.specs.Plain.{begins_plain, is_plain}
 use Rattle.tx_term.proofs.CanvasLemmas.{held-put_held}
 use Rattle.tx_term.proofs.FeedLemmas.{put_held-nothing}
 use Rattle.tx_term.proofs.TextLemmas.{with_characters, fed-encodes}
@@ -87,7 +85,7 @@ apart_from c cs apart =
 
 scalars-more : (cs : List ℕ) (c : ℕ) → scalars cs ≡ true → scalar c ≡ true → scalars (cs ++ c ∷ []) ≡ true
 scalars-more [] c are is = ap (λ b. b && true) is
-scalars-more (x ∷ cs) c are is = ap (λ b. b && scalars (cs ++ c ∷ [])) (and_first _ _ are) ∙ scalars-more cs c (and_second _ _ are) is
+scalars-more (x ∷ cs) c are is = ap (λ b. b && scalars (cs ++ c ∷ [])) (and_parts _ _ are).0 ∙ scalars-more cs c (and_parts _ _ are).1 is
 
 text-grows : (first : ℕ) (done cs : List ℕ) (canvas : CanvasValue) → canvas.held ≡ encodes (first ∷ done) → scalars (first ∷ done) ≡ true → scalars cs ≡ true
     → IsApart first cs → length (encodes (first ∷ done)) + length (encodes cs) ≤ 32
@@ -95,7 +93,7 @@ text-grows : (first : ℕ) (done cs : List ℕ) (canvas : CanvasValue) → canva
 text-grows first done [] canvas held are more apart room = ap (λ h. record canvas { held = h }) (held ∙ sym (append-nil (encodes (first ∷ done))))
 text-grows first done (c ∷ cs) canvas held are more apart room =
     let text = encodes (first ∷ done) in
-    let scalar_c = and_first _ _ more in
+    let scalar_c = (and_parts _ _ more).0 in
     let longer : text ++ encode c ≡ encodes (first ∷ (done ++ c ∷ [])) =
     ap (λ e. text ++ e) (sym (append-nil (encode c))) ∙ sym (encodes-append (first ∷ done) (c ∷ [])) in
     let plain_held : begins_plain (chars canvas.held) ≡ is_plain first = ap (λ t. begins_plain (chars t)) held ∙ ap begins_plain (chars-encodes (first ∷ done) are) in
@@ -106,7 +104,7 @@ text-grows first done (c ∷ cs) canvas held are more apart room =
     let long : length canvas.held ≡ length text = ap length held in
     let next = record canvas { held = encodes (first ∷ (done ++ c ∷ [])) } in
     ap (with_characters cs) (joins canvas (encode c) none (omega arith) ∙ ap (λ h. record canvas { held = h ++ encode c }) held ∙ ap (λ h. record canvas { held = h }) longer)
-    ∙ text-grows first (done ++ c ∷ []) cs next refl (scalars-more (first ∷ done) c are scalar_c) (and_second _ _ more) (apart-rest first c cs apart)
+    ∙ text-grows first (done ++ c ∷ []) cs next refl (scalars-more (first ∷ done) c are scalar_c) (and_parts _ _ more).1 (apart-rest first c cs apart)
     (omega (arith, ap length (sym longer), length-append text (encode c)))
     ∙ ap (λ h. record canvas { held = h }) (ap (λ t. t ++ encodes cs) (sym longer) ∙ append_assoc text (encode c) (encodes cs))
 
@@ -121,7 +119,7 @@ text-held (c ∷ cs) canvas nothing are apart room =
     let alone : encode c ≡ encodes (c ∷ []) = sym (append-nil (encode c)) in
     let next = record canvas { held = encodes (c ∷ []) } in
     ap (with_characters cs) (joins canvas (encode c) none (omega (arith, short-encode c, ap length nothing)) ∙ ap (λ h. record canvas { held = h ++ encode c }) nothing ∙ ap (λ h. record canvas { held = h }) alone)
-    ∙ text-grows c [] cs next refl (ap (λ b. b && true) (and_first _ _ are)) (and_second _ _ are) (apart_from c cs apart) (omega (arith, ap length alone))
+    ∙ text-grows c [] cs next refl (ap (λ b. b && true) (and_parts _ _ are).0) (and_parts _ _ are).1 (apart_from c cs apart) (omega (arith, ap length alone))
     ∙ ap (λ h. record canvas { held = h ++ encodes cs }) (sym alone)
 
 -- ---- the text of a cell
@@ -136,7 +134,7 @@ plain_text cs canvas false is plain are held = cc
 plain_text [] canvas true is plain are held = cc
 plain_text (c ∷ d ∷ cs) canvas true is plain are held = absurd (let one : length (c ∷ d ∷ cs) ≡ 1 = eqb-true _ _ is in omega (arith, one))
 plain_text (c ∷ []) canvas true is plain are held =
-    let here : begins_plain (chars (encode c)) ≡ true = ap begins_plain (chars-encode c (and_first _ _ are)) ∙ and_first _ _ plain in
+    let here : begins_plain (chars (encode c)) ≡ true = ap begins_plain (chars-encode c (and_parts _ _ are).0) ∙ (and_parts _ _ plain).0 in
     begins canvas (encode c) held here (omega (arith, short-encode c)) ∙ ap (λ h. record (put_held canvas) { held = h }) (sym (append-nil (encode c)))
 
 cell_text : (cs : List ℕ) (cell : CellValue) (canvas : CanvasValue) → encodes cs ≡ cell.text → scalars cs ≡ true → IsMade cell.pen cell → LetsBegin canvas.held cell
@@ -156,7 +154,7 @@ cell_text cs cell canvas is are made (inr plain) =
 pub fed-cell_text : (machine : Machine) (cell : CellValue) → machine.unfinished ≡ [] → IsOfItsText cell → LetsBegin machine.canvas.held cell
     → fed machine cell.text ≡ record machine { canvas = record (put_held machine.canvas) { held = cell.text }; unfinished = [] }
 fed-cell_text machine cell ready own lets =
-    let made = cell_of-IsMade cell.text cell.pen cell own.own in
+    let made = IsMade-own cell own in
     let utf8 = IsUtf8-from_is_utf8 cell.text own.utf8 in
     let cs = utf8.0 in
     let are : scalars cs ≡ true = utf8.1.0 in

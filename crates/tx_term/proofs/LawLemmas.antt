@@ -3,7 +3,7 @@ use Rattle.std.proofs.Common.{◌≡◌, ◌≤◌, ◌+◌, ℕ, zero, suc, Lis
 use Rattle.std.proofs.lemmas.List.{length-replicate}
 use Rattle.std.proofs.lemmas.List.Elements.{All-head, All-tail, All-replicate}
 use Rattle.std.specs.List.{All}
-use Rattle.tx_cell.proofs.CellLemmas.{IsOfItsText-blank}
+use Rattle.tx_cell.proofs.lemmas.MadeCells.{IsOfItsText-blank, white_on_black-channels}
 use Rattle.tx_cell.specs.Cell.{CellValue, blank}
 use Rattle.tx_cell.specs.Grid.{GridValue, IsGrid, filled}
 use Rattle.tx_cell.specs.Strip.{IsWellFormed}
@@ -12,13 +12,14 @@ use Rattle.tx_geom.specs.declared.places.Size.{Size}
 use Rattle.tx_term.proofs.CanvasLemmas.{size-drawn, held-put_held}
 use Rattle.tx_term.proofs.DrawingLemmas.{written-append, pen_after-append, rest_marks-all}
 use Rattle.tx_term.proofs.FeedLemmas.{AreParameters, fed-append, fed-nothing, fed-cons, fed-sequence, step-cancel, pen-put_held, put_held-nothing}
-use Rattle.tx_term.proofs.RowLemmas.{AreBytes, Stands-rest, row_leads, cut_front-formed}
+use Rattle.tx_term.proofs.RowLemmas.{Stands-rest, row_leads, cut_front-formed}
 use Rattle.tx_term.proofs.UnitLemmas.{Stands}
 use Rattle.tx_term.specs.Canvas.{CanvasValue, put_held, held_cell, erased}
 use Rattle.tx_term.specs.Drawing.{pen_after, rest_marks}
 use Rattle.tx_term.specs.Laws.{IsScreen, UpdatesLead, WholeUpdatesLead}
 use Rattle.tx_term.specs.Machine.{Machine, Shows, fed, ended, run, screen_of}
-use Rattle.tx_term.specs.Sequence.{default_pen, command_of}
+use Rattle.tx_cell.specs.Pen.{white_on_black}
+use Rattle.tx_term.specs.Sequence.{command_of}
 use Rattle.tx_term.specs.Update.{written, units, runs, run_marks, row_marks, rows_marks, opening, update}
 use Rattle.std.specs.Int.{is_in_range}
 use Rattle.tx_term.specs.declared.machine.command.Command.{Command}
@@ -35,14 +36,14 @@ screen_with size rows = record { size = size; rows = rows }
 module _ (size : Size) (whole : Bool) (high : size.height ≤ 65535) (broad : size.width ≤ 65535) where
   rows_lead : (news olds done : List (List CellValue)) (machine : Machine) (last : Option Pen)
       → length olds ≡ length news → length done + length news ≡ size.height
-      → All (HasWidth size.width) olds → All (HasWidth size.width) news → All IsWellFormed olds → All IsWellFormed news → All AreBytes news
+      → All (HasWidth size.width) olds → All (HasWidth size.width) news → All IsWellFormed olds → All IsWellFormed news
       → Stands machine (screen_with size (done ++ olds)) last 0 0 false
       → Stands (fed machine (written last (rows_marks whole (length done) olds news))) (screen_with size (done ++ news)) (pen_after last (rows_marks whole (length done) olds news)) 0 0 false
-  rows_lead [] [] done machine last lens total old_widths new_widths olds_formed news_formed bytes stands =
+  rows_lead [] [] done machine last lens total old_widths new_widths olds_formed news_formed stands =
       subst (λ m. Stands m (screen_with size (done ++ [])) last 0 0 false) (sym (fed-nothing machine)) stands
-  rows_lead [] (old ∷ olds) done machine last lens total old_widths new_widths olds_formed news_formed bytes stands = absurd (omega (arith, lens))
-  rows_lead (new ∷ news) [] done machine last lens total old_widths new_widths olds_formed news_formed bytes stands = absurd (omega (arith, lens))
-  rows_lead (new ∷ news) (old ∷ olds) done machine last lens total old_widths new_widths olds_formed news_formed bytes stands =
+  rows_lead [] (old ∷ olds) done machine last lens total old_widths new_widths olds_formed news_formed stands = absurd (omega (arith, lens))
+  rows_lead (new ∷ news) [] done machine last lens total old_widths new_widths olds_formed news_formed stands = absurd (omega (arith, lens))
+  rows_lead (new ∷ news) (old ∷ olds) done machine last lens total old_widths new_widths olds_formed news_formed stands =
       let y = length done in
       let old_width = All-head (HasWidth size.width) old olds old_widths in
       let new_width = All-head (HasWidth size.width) new news new_widths in
@@ -51,14 +52,13 @@ module _ (size : Size) (whole : Bool) (high : size.height ≤ 65535) (broad : si
       let marks : rest_marks y false (units whole 0 (zip old new)) ≡ first = rest_marks-all y (units whole 0 (zip old new)) in
       let start = subst (λ row. Stands machine (screen_with size (done ++ row ∷ olds)) last y 0 false) (sym (cut_front-formed old old_formed)) (Stands-rest stands y 0) in
       let led = row_leads size done olds whole high broad (omega (arith, total)) (length new) new old [] machine last false (omega arith) (old_width ∙ sym new_width) (omega (arith, new_width))
-      (All-head IsWellFormed new news news_formed) (record { owed = None; is_owed = tt; formed = old_formed }) refl (All-head AreBytes new news bytes) start in
+      (All-head IsWellFormed new news news_formed) (record { owed = None; is_owed = tt; formed = old_formed }) refl start in
       let here = subst (λ m. Stands (fed machine (written last m)) (screen_with size (done ++ new ∷ olds)) (pen_after last m) 0 0 false) marks led in
       let next = fed machine (written last first) in
       let below : length (done ++ new ∷ []) ≡ y + 1 = length-append done (new ∷ []) in
       let more = rows_marks whole (y + 1) olds news in
       let others = rows_lead news olds (done ++ new ∷ []) next (pen_after last first) (omega (arith, lens)) (omega (arith, total, below))
       (All-tail (HasWidth size.width) old olds old_widths) (All-tail (HasWidth size.width) new news new_widths) (All-tail IsWellFormed old olds olds_formed) (All-tail IsWellFormed new news news_formed)
-      (All-tail AreBytes new news bytes)
       (subst (λ rows. Stands next (screen_with size rows) (pen_after last first) 0 0 false) (sym (append_assoc done (new ∷ []) olds)) here) in
       let named = subst (λ r. Stands (fed next (written (pen_after last first) (rows_marks whole r olds news))) (screen_with size ((done ++ new ∷ []) ++ news)) (pen_after (pen_after last first) (rows_marks whole r olds news)) 0 0 false) below others in
       let all : fed machine (written last (first ++ more)) ≡ fed next (written (pen_after last first) more) =
@@ -88,7 +88,7 @@ grid_leads machine whole shown next old new same stands =
     let widths = subst (λ (s : Size). All (HasWidth s.width) shown.rows) same old.width in
     let heights : length shown.rows ≡ length next.rows = old.height ∙ ap (λ (s : Size). s.height) same ∙ sym new.formed.height in
     Shows-from_Stands _ next _ (rows_lead size whole new.height new.width next.rows shown.rows [] machine None heights (omega (arith, new.formed.height))
-    widths new.formed.width old.formed new.formed.formed new.bytes
+    widths new.formed.width old.formed new.formed.formed
     (subst (λ s. Stands machine (screen_with s shown.rows) None 0 0 false) same stands))
 
 -- ---- the laws
@@ -120,7 +120,7 @@ asks_cursor : (pen : Pen) → command_of 108 (codes "?25") pen ≡ ShowCursor fa
 unfolding command_of
 asks_cursor pen = refl
 
-asks_pen : (pen : Pen) → command_of 109 (codes "0") pen ≡ SetPen default_pen
+asks_pen : (pen : Pen) → command_of 109 (codes "0") pen ≡ SetPen white_on_black
 unfolding command_of
 asks_pen pen = refl
 
@@ -131,12 +131,12 @@ asks_erase pen = refl
 -- the machine behind the opening
 opened_by : (machine : Machine) → fed machine opening ≡
     (let m0 = ended machine in let m1 = record (ended m0) { alternate = true } in let m2 = record (ended m1) { cursor_shown = false } in
-    let m3 = record (ended m2) { canvas = record (put_held m2.canvas) { pen = default_pen } } in record (ended m3) { canvas = erased (put_held m3.canvas) })
+    let m3 = record (ended m2) { canvas = record (put_held m2.canvas) { pen = white_on_black } } in record (ended m3) { canvas = erased (put_held m3.canvas) })
 opened_by machine =
     let m0 = ended machine in
     let m1 = record (ended m0) { alternate = true } in
     let m2 = record (ended m1) { cursor_shown = false } in
-    let m3 = record (ended m2) { canvas = record (put_held m2.canvas) { pen = default_pen } } in
+    let m3 = record (ended m2) { canvas = record (put_held m2.canvas) { pen = white_on_black } } in
     let s1 : List ℕ = 27 ∷ 91 ∷ (codes "?1049" ++ 104 ∷ []) in
     let s2 : List ℕ = 27 ∷ 91 ∷ (codes "?25" ++ 108 ∷ []) in
     let s3 : List ℕ = 27 ∷ 91 ∷ (codes "0" ++ 109 ∷ []) in
@@ -148,21 +148,21 @@ opened_by machine =
     ∙ fed-append m1 s2 (s3 ++ s4)
     ∙ ap (λ m. fed m (s3 ++ s4)) (fed-known m1 (codes "?25") 108 (ShowCursor false) refl (omega arith) refl (asks_cursor m1.canvas.pen))
     ∙ fed-append m2 s3 s4
-    ∙ ap (λ m. fed m s4) (fed-known m2 (codes "0") 109 (SetPen default_pen) refl (omega arith) refl (asks_pen m2.canvas.pen))
+    ∙ ap (λ m. fed m s4) (fed-known m2 (codes "0") 109 (SetPen white_on_black) refl (omega arith) refl (asks_pen m2.canvas.pen))
     ∙ fed-known m3 (codes "2") 74 Erase refl (omega arith) refl (asks_erase m3.canvas.pen)
 
 -- whatever stood before it, the screen is blank then
-Stands-opening : (machine : Machine) (size : Size) → machine.canvas.grid.size ≡ size → Stands (fed machine opening) (filled size (blank default_pen)) None 0 0 false
+Stands-opening : (machine : Machine) (size : Size) → machine.canvas.grid.size ≡ size → Stands (fed machine opening) (filled size (blank white_on_black)) None 0 0 false
 Stands-opening machine size same =
     let m0 = ended machine in
     let m1 = record (ended m0) { alternate = true } in
     let m2 = record (ended m1) { cursor_shown = false } in
-    let m3 = record (ended m2) { canvas = record (put_held m2.canvas) { pen = default_pen } } in
+    let m3 = record (ended m2) { canvas = record (put_held m2.canvas) { pen = white_on_black } } in
     let m4 = record (ended m3) { canvas = erased (put_held m3.canvas) } in
     let nothing : m4.canvas.held ≡ [] = held-put_held m3.canvas in
     let kept : (put_held m3.canvas).grid.size ≡ size =
     size-put_held m3.canvas ∙ size-put_held m2.canvas ∙ size-put_held m1.canvas ∙ size-put_held m0.canvas ∙ size-put_held machine.canvas ∙ same in
-    subst (λ m. Stands m (filled size (blank default_pen)) None 0 0 false) (sym (opened_by machine))
+    subst (λ m. Stands m (filled size (blank white_on_black)) None 0 0 false) (sym (opened_by machine))
     (record {
       ready = refl;
       drawn = ap (λ (c : CanvasValue). c.grid) (put_held-nothing m4.canvas nothing) ∙ ap₂ (λ s p. filled s (blank p)) kept (pen-put_held m3.canvas);
@@ -196,23 +196,23 @@ rows-whole width row (new ∷ news) (old ∷ olds) (other ∷ others) first seco
     (units-whole 0 new old other (All-head (HasWidth width) old olds o ∙ sym w) (All-head (HasWidth width) other others p ∙ sym w))
     (rows-whole width (row + 1) news olds others (omega (arith, first)) (omega (arith, second)) (All-tail (HasWidth width) new news n) (All-tail (HasWidth width) old olds o) (All-tail (HasWidth width) other others p))
 
-blanks_formed : (n : ℕ) (pen : Pen) → IsWellFormed (replicate n (blank pen))
-blanks_formed zero pen = tt
-blanks_formed (suc n) pen = (IsOfItsText-blank pen, blanks_formed n pen)
+blanks_formed : (n : ℕ) → IsWellFormed (replicate n (blank white_on_black))
+blanks_formed zero = tt
+blanks_formed (suc n) = (IsOfItsText-blank white_on_black white_on_black-channels, blanks_formed n)
 
-IsGrid-blank : (size : Size) (pen : Pen) → IsGrid (filled size (blank pen))
-IsGrid-blank size pen = record {
-  height = length-replicate size.height (replicate size.width (blank pen));
-  width = All-replicate (HasWidth size.width) size.height (replicate size.width (blank pen)) (length-replicate size.width (blank pen));
-  formed = All-replicate IsWellFormed size.height (replicate size.width (blank pen)) (blanks_formed size.width pen);
+IsGrid-blank : (size : Size) → IsGrid (filled size (blank white_on_black))
+IsGrid-blank size = record {
+  height = length-replicate size.height (replicate size.width (blank white_on_black));
+  width = All-replicate (HasWidth size.width) size.height (replicate size.width (blank white_on_black)) (length-replicate size.width (blank white_on_black));
+  formed = All-replicate IsWellFormed size.height (replicate size.width (blank white_on_black)) (blanks_formed size.width);
 }
 
 pub whole_updates_lead : WholeUpdatesLead
 unfolding update
 whole_updates_lead machine shown next old new same size =
-    let blanks = filled next.size (blank default_pen) in
+    let blanks = filled next.size (blank white_on_black) in
     let marks = rows_marks true 0 shown.rows next.rows in
-    let grid = IsGrid-blank next.size default_pen in
+    let grid = IsGrid-blank next.size in
     let begun = fed machine opening in
     let heights : length shown.rows ≡ length next.rows = old.height ∙ ap (λ (s : Size). s.height) same ∙ sym new.formed.height in
     let widths = subst (λ (s : Size). All (HasWidth s.width) shown.rows) same old.width in

@@ -1,4 +1,3 @@
-pub mod BufferLemmas
 pub mod CanvasLemmas
 pub mod DrawingLemmas
 pub mod FeedLemmas

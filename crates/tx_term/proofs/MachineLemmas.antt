@@ -1,6 +1,7 @@
 -- Bytes of text.
 use Rattle.std.proofs.Common.{◌≡◌, ◌||◌, ℕ, List, [], ◌∷◌, Bool, true, false, refl, ap, sym, ◌∙◌, Option, Some, None, cond, not, is_none}
 use Rattle.std.specs.Option.{is_some}
+use Rattle.std.proofs.lemmas.Bool.{false_from_ne_true, or_from, or_left, or_right}
 use Rattle.std.proofs.lemmas.Str.{IsUtf8-from_is_utf8}
 use Rattle.std.specs.Str.{IsUtf8, is_utf8}
 use Rattle.tx_term.specs.Canvas.{with_character}
@@ -32,7 +33,7 @@ known_by : (bytes : List ℕ) (machine otherwise : Machine) (whole cut : Bool) �
 known_by bytes machine otherwise true cut is is_cut_is known = with_bytes-whole bytes machine machine is ∙ sym (with_bytes-whole bytes machine otherwise is)
 known_by bytes machine otherwise false true is is_cut_is known = with_bytes-cut bytes machine machine is is_cut_is ∙ sym (with_bytes-cut bytes machine otherwise is is_cut_is)
 known_by bytes machine otherwise false false is is_cut_is known =
-    absurd (let no : (is_utf8 bytes || is_cut bytes) ≡ false = ap (λ b. b || is_cut bytes) is ∙ is_cut_is in cc)
+    absurd (let neither : (is_utf8 bytes || is_cut bytes) ≡ false = or_from _ _ is is_cut_is in cc)
 
 -- the bytes are those of a character or of the beginning of one
 pub with_bytes-known : (bytes : List ℕ) (machine otherwise : Machine) → true ≡ (is_utf8 bytes || is_cut bytes)
@@ -41,9 +42,8 @@ with_bytes-known bytes machine otherwise known = known_by bytes machine otherwis
 
 unknown_by : (bytes : List ℕ) (machine otherwise : Machine) (whole cut : Bool) → is_utf8 bytes ≡ whole → is_cut bytes ≡ cut → false ≡ (is_utf8 bytes || is_cut bytes)
     → with_bytes bytes machine otherwise ≡ otherwise
-unknown_by bytes machine otherwise true cut is is_cut_is unknown = absurd (let yes : (is_utf8 bytes || is_cut bytes) ≡ true = ap (λ b. b || is_cut bytes) is in cc)
-unknown_by bytes machine otherwise false true is is_cut_is unknown =
-    absurd (let yes : (is_utf8 bytes || is_cut bytes) ≡ true = ap (λ b. b || is_cut bytes) is ∙ is_cut_is in cc)
+unknown_by bytes machine otherwise true cut is is_cut_is unknown = absurd (let either : (is_utf8 bytes || is_cut bytes) ≡ true = or_left _ _ is in cc)
+unknown_by bytes machine otherwise false true is is_cut_is unknown = absurd (let either : (is_utf8 bytes || is_cut bytes) ≡ true = or_right _ _ is_cut_is in cc)
 unknown_by bytes machine otherwise false false is is_cut_is unknown = with_bytes-other bytes machine otherwise is is_cut_is
 
 -- they are not
@@ -54,15 +54,5 @@ pub text_byte-text : (machine : Machine) (byte : ℕ) → is_control_byte byte �
     → text_byte machine byte ≡ with_bytes (longer_by machine.unfinished byte) machine (with_bytes (byte ∷ []) machine (record machine { unfinished = [] }))
 text_byte-text machine byte no_control = rw no_control refl
 
-no_text_by : (bytes : List ℕ) (b : Bool) → is_utf8 bytes ≡ b → (IsUtf8 bytes → ⊥) → is_utf8 bytes ≡ false
-no_text_by bytes true is never = absurd (never (IsUtf8-from_is_utf8 bytes is))
-no_text_by bytes false is never = is
-
 pub no_text : (bytes : List ℕ) → (IsUtf8 bytes → ⊥) → is_utf8 bytes ≡ false
-no_text bytes never = no_text_by bytes (is_utf8 bytes) refl never
-
-pub either_first : (a b : Bool) → a ≡ true → true ≡ (a || b)
-either_first a b is = sym (ap (λ c. c || b) is)
-
-pub either_second : (a b : Bool) → a ≡ false → (a || b) ≡ b
-either_second a b is = ap (λ c. c || b) is
+no_text bytes never = false_from_ne_true _ (λ is. never (IsUtf8-from_is_utf8 bytes is))

@@ -1,17 +1,14 @@
 -- Numbers are read back as they were written.
-use Rattle.std.proofs.Common.{◌≡◌, ◌≢◌, ◌≤◌, ◌<◌, ◌+◌, ◌*◌, ◌/◌, ◌%◌, ◌^◌, ◌==◌, ℕ, zero, suc, List, [], ◌∷◌, ◌++◌, length, Bool, true, false, refl, arith, ap, ◌∙◌, ◌&&◌, cond, nat_le, Option, Some, None, unwrap_or}
+use Rattle.std.proofs.Common.{◌≡◌, ◌≢◌, ◌≤◌, ◌<◌, ◌+◌, ◌*◌, ◌/◌, ◌%◌, ◌^◌, ◌==◌, ℕ, zero, suc, List, [], ◌∷◌, ◌++◌, length, Bool, true, false, refl, arith, ap, ◌∙◌, ◌&&◌, cond, Option, Some, None, unwrap_or}
 use Rattle.std.proofs.Math.Nat.{pow-suc}
-use Rattle.std.proofs.lemmas.Bool.{le-leb, lt-ltb, eqb-true, eqb-false}
+use Rattle.std.proofs.lemmas.Bool.{lt-ltb, eqb-true, eqb-false}
 use Rattle.std.proofs.lemmas.Fmt.{length-decimal-le}
 use Rattle.std.specs.Char.{is_ascii_digit}
 use Rattle.std.specs.Fmt.{decimal, digits, digits_onto, digit_glyph}
 use Rattle.std.specs.Int.{is_in_range}
 use Rattle.std.specs.List.{list_all}
-use Rattle.tx_term.proofs.FeedLemmas.{AreParameters}
+use Rattle.tx_term.proofs.FeedLemmas.{AreParameters, within}
 use Rattle.tx_term.specs.Sequence.{numbers_behind, with_digit}
-
-within : (low high a : ℕ) → low ≤ a → a ≤ high → is_in_range low high a ≡ true
-within low high a above below = ap (λ b. b && nat_le a high) (le-leb low a above) ∙ le-leb a high below
 
 -- a digit and its byte
 glyph : (d : ℕ) → d < 10 → digit_glyph false d ≡ 48 + d

@@ -2,10 +2,8 @@
 use Rattle.std.proofs.Common.{◌≡◌, ◌≤◌, ◌<◌, ◌+◌, ℕ, zero, suc, List, [], ◌∷◌, ◌++◌, length, take, drop, zip, Bool, true, false, not, refl, arith, ap, ap₂, sym, ◌∙◌, ◌&&◌, ◌||◌, cond, nat_lt, append_assoc, length-append, Option, Some, None, subst}
 use Rattle.std.proofs.Math.Seq.{take_at, drop_at, drop-drop}
 use Rattle.std.proofs.lemmas.Bool.{ltb-true, ltb-false}
-use Rattle.std.proofs.lemmas.List.Elements.{All-head, All-tail}
-use Rattle.std.specs.List.{All}
 use Rattle.std.specs.Prelude.{⊤}
-use Rattle.tx_cell.proofs.MadeLemmas.{cell_of-IsMade}
+use Rattle.tx_cell.proofs.lemmas.MadeCells.{IsMade-own}
 use Rattle.tx_cell.specs.Cell.{CellValue, IsOfItsText, tail_of}
 use Rattle.tx_cell.specs.Grid.{GridValue, changed_at, with_put}
 use Rattle.tx_cell.specs.Same.{cell_eq, cell_eq-decides}
@@ -16,7 +14,6 @@ use Rattle.tx_term.proofs.DrawingLemmas.{written-append, pen_after-append, rest_
 use Rattle.tx_term.proofs.FeedLemmas.{fed-append, fed-nothing}
 use Rattle.tx_term.proofs.UnitLemmas.{Stands, Stands-unit}
 use Rattle.tx_term.specs.Drawing.{pen_after, rest_marks, unit_marks}
-use Rattle.tx_term.specs.Laws.{HasByteChannels}
 use Rattle.tx_term.specs.Machine.{Machine, fed}
 use Rattle.tx_term.specs.Update.{Mark, Move, Write, written, units, unit_differs, first_differ, is_plain_cell}
 
@@ -65,7 +62,7 @@ IsRest-tail : (cell : CellValue) (cells : List CellValue) → IsRest (cell ∷ c
 IsRest-tail cell cells rest = rest-by cell cells rest.owed rest.formed
 
 no_tail : (cell : CellValue) → IsOfItsText cell → cell.tail ≡ false
-no_tail cell own = let made = cell_of-IsMade cell.text cell.pen cell own.own in made.head
+no_tail cell own = (IsMade-own cell own).head
 
 without_head-own : (cell : CellValue) → cell.tail ≡ false → without_head cell ≡ cell
 without_head-own cell head = rw head refl
@@ -98,12 +95,6 @@ same_first whole o c pairs equal = same_by o c whole (cell_eq o c) (nat_lt 1 c.w
 
 -- ---- a row
 
-abbrev pub HasBytes : CellValue → Type 0
-HasBytes cell = HasByteChannels cell.pen
-
-abbrev pub AreBytes : List CellValue → Type 0
-AreBytes cells = All HasBytes cells
-
 pen_after-unit : (last : Option Pen) (row column : ℕ) (behind_plain : Bool) (cell : CellValue) → pen_after last (unit_marks row column behind_plain cell) ≡ Some cell.pen
 pen_after-unit last row column behind_plain cell = by (behind_plain && is_plain_cell cell)
   where
@@ -129,7 +120,7 @@ module _ (size : Size) (before after : List (List CellValue)) (whole : Bool) (hi
   RowLeads n =
       (news olds done : List CellValue) (machine : Machine) (last : Option Pen) (behind_plain : Bool)
       → length news ≤ n → length olds ≡ length news → length done + length news ≡ size.width
-      → IsWellFormed news → IsRest olds → cut_end done ≡ done → AreBytes news
+      → IsWellFormed news → IsRest olds → cut_end done ≡ done
       → Stands machine (with_row (done ++ cut_front olds)) last (length before) (length done) behind_plain
       → Stands (fed machine (written last (marks_from behind_plain done olds news))) (with_row (done ++ news)) (pen_after last (marks_from behind_plain done olds news)) 0 0 false
 
@@ -140,7 +131,7 @@ module _ (size : Size) (before after : List (List CellValue)) (whole : Bool) (hi
       → Stands (fed machine (written last (marks_from behind_plain (done ++ with_tail cell) olds rest))) (with_row ((done ++ with_tail cell) ++ rest)) (pen_after last (marks_from behind_plain (done ++ with_tail cell) olds rest)) 0 0 false
 
   unit_then : (cell : CellValue) (news olds rest olds' done : List CellValue) (machine : Machine) (last : Option Pen) (behind_plain differs : Bool)
-      → IsOfItsText cell → HasByteChannels cell.pen
+      → IsOfItsText cell
       → length done + cell.width ≤ size.width → length (done ++ with_tail cell) ≡ length done + cell.width
       → units whole (length done) (zip olds news) ≡ record { column = length done; cell = cell; differs = differs } ∷ units whole (length (done ++ with_tail cell)) (zip olds' rest)
       → news ≡ with_tail cell ++ rest
@@ -149,7 +140,7 @@ module _ (size : Size) (before after : List (List CellValue)) (whole : Bool) (hi
       → AfterUnit cell rest olds' done
       → Stands machine (with_row (done ++ cut_front olds)) last (length before) (length done) behind_plain
       → Stands (fed machine (written last (marks_from behind_plain done olds news))) (with_row (done ++ news)) (pen_after last (marks_from behind_plain done olds news)) 0 0 false
-  unit_then cell news olds rest olds' done machine last behind_plain true own bytes inside long are split here same others stands =
+  unit_then cell news olds rest olds' done machine last behind_plain true own inside long are split here same others stands =
       let y = length before in
       let x = length done in
       let first = unit_marks y x behind_plain cell in
@@ -160,7 +151,7 @@ module _ (size : Size) (before after : List (List CellValue)) (whole : Bool) (hi
       let pen = pen_after-unit last y x behind_plain cell in
       let put : with_put (with_row (done ++ cut_front olds)) x y cell ≡ with_row ((done ++ with_tail cell) ++ cut_front olds') =
       ap (λ rows. record { size = size; rows = rows }) (changed_at-middle (laid x (with_tail cell)) before after (done ++ cut_front olds) ∙ ap (λ row. before ++ row ∷ after) here) in
-      let moved = Stands-unit machine (with_row (done ++ cut_front olds)) last y x behind_plain cell stands own bytes below inside high broad in
+      let moved = Stands-unit machine (with_row (done ++ cut_front olds)) last y x behind_plain cell stands own below inside high broad in
       let led = others next (Some cell.pen) (is_plain_cell cell) (subst (λ c. Stands next (with_row ((done ++ with_tail cell) ++ cut_front olds')) (Some cell.pen) y c (is_plain_cell cell)) (sym long)
       (subst (λ g. Stands next g (Some cell.pen) y (x + cell.width) (is_plain_cell cell)) put moved)) in
       let all : fed machine (written last (marks_from behind_plain done olds news)) ≡ fed next (written (Some cell.pen) more) =
@@ -172,7 +163,7 @@ module _ (size : Size) (before after : List (List CellValue)) (whole : Bool) (hi
       subst (λ m. Stands m (with_row (done ++ news)) (pen_after last (marks_from behind_plain done olds news)) 0 0 false) (sym all)
       (subst (λ p. Stands (fed next (written (Some cell.pen) more)) (with_row (done ++ news)) p 0 0 false) (sym last_pen)
       (subst (λ r. Stands (fed next (written (Some cell.pen) more)) (with_row r) (pen_after (Some cell.pen) more) 0 0 false) (sym row) led))
-  unit_then cell news olds rest olds' done machine last behind_plain false own bytes inside long are split here same others stands =
+  unit_then cell news olds rest olds' done machine last behind_plain false own inside long are split here same others stands =
       let y = length before in
       let x = length done in
       let more = marks_from false (done ++ with_tail cell) olds' rest in
@@ -186,18 +177,18 @@ module _ (size : Size) (before after : List (List CellValue)) (whole : Bool) (hi
   -- a cell in one column
   narrow_step : (n : ℕ) → RowLeads n → (c o : CellValue) (news olds done : List CellValue) (machine : Machine) (last : Option Pen) (behind_plain : Bool)
       → nat_lt 1 c.width ≡ false → length (c ∷ news) ≤ suc n → length (o ∷ olds) ≡ length (c ∷ news) → length done + length (c ∷ news) ≡ size.width
-      → IsWellFormed (c ∷ news) → IsRest (o ∷ olds) → cut_end done ≡ done → AreBytes (c ∷ news)
+      → IsWellFormed (c ∷ news) → IsRest (o ∷ olds) → cut_end done ≡ done
       → Stands machine (with_row (done ++ cut_front (o ∷ olds))) last (length before) (length done) behind_plain
       → Stands (fed machine (written last (marks_from behind_plain done (o ∷ olds) (c ∷ news)))) (with_row (done ++ c ∷ news)) (pen_after last (marks_from behind_plain done (o ∷ olds) (c ∷ news))) 0 0 false
-  narrow_step n leads c o news olds done machine last behind_plain narrow few lens total formed rest closed bytes stands =
+  narrow_step n leads c o news olds done machine last behind_plain narrow few lens total formed rest closed stands =
       let own = formed.0 in
       let head = no_tail c own in
-      let made = cell_of-IsMade c.text c.pen c own.own in
+      let made = IsMade-own c own in
       let alone : with_tail c ≡ c ∷ [] = ap (λ b. cond b (c ∷ tail_of c.pen ∷ []) (c ∷ [])) narrow in
       let one : c.width ≡ 1 = omega (arith, made.some, ltb-false 1 c.width narrow) in
       let long : length (done ++ with_tail c) ≡ length done + 1 = ap (λ l. length (done ++ l)) alone ∙ length-append done (c ∷ []) in
       let differs = whole || unit_differs (o, c) (zip olds news) in
-      unit_then c (c ∷ news) (o ∷ olds) news olds done machine last behind_plain differs own (All-head HasBytes c news bytes)
+      unit_then c (c ∷ news) (o ∷ olds) news olds done machine last behind_plain differs own
       (omega (arith, one, total)) (long ∙ ap (λ w. length done + w) (sym one))
       (units-head whole (length done) o c (zip olds news) head ∙ ap (λ k. record { column = length done; cell = c; differs = differs } ∷ units whole k (zip olds news)) (sym long))
       (ap (λ l. l ++ news) (sym alone))
@@ -212,7 +203,7 @@ module _ (size : Size) (before after : List (List CellValue)) (whole : Bool) (hi
       leads news olds (done ++ with_tail c) next last' behind' (omega (arith, few)) (omega (arith, lens)) (omega (arith, total, long))
       (formed_narrow c news narrow formed.1) (IsRest-tail o olds rest)
       (ap (λ l. cut_end (done ++ l)) alone ∙ cut_end-append done c [] ∙ ap (λ f. done ++ f ∷ []) (kept c narrow) ∙ ap (λ l. done ++ l) (sym alone))
-      (All-tail HasBytes c news bytes) stands')
+      stands')
       stands
     where
       kept : (cell : CellValue) → nat_lt 1 cell.width ≡ false → without_tail cell ≡ cell
@@ -221,13 +212,13 @@ module _ (size : Size) (before after : List (List CellValue)) (whole : Bool) (hi
   -- a cell in two columns
   wide_step : (n : ℕ) → RowLeads n → (c t o p : CellValue) (news olds done : List CellValue) (machine : Machine) (last : Option Pen) (behind_plain : Bool)
       → nat_lt 1 c.width ≡ true → length (c ∷ t ∷ news) ≤ suc n → length (o ∷ p ∷ olds) ≡ length (c ∷ t ∷ news) → length done + length (c ∷ t ∷ news) ≡ size.width
-      → IsWellFormed (c ∷ t ∷ news) → IsRest (o ∷ p ∷ olds) → cut_end done ≡ done → AreBytes (c ∷ t ∷ news)
+      → IsWellFormed (c ∷ t ∷ news) → IsRest (o ∷ p ∷ olds) → cut_end done ≡ done
       → Stands machine (with_row (done ++ cut_front (o ∷ p ∷ olds))) last (length before) (length done) behind_plain
       → Stands (fed machine (written last (marks_from behind_plain done (o ∷ p ∷ olds) (c ∷ t ∷ news)))) (with_row (done ++ c ∷ t ∷ news)) (pen_after last (marks_from behind_plain done (o ∷ p ∷ olds) (c ∷ t ∷ news))) 0 0 false
-  wide_step n leads c t o p news olds done machine last behind_plain wide few lens total formed rest closed bytes stands =
+  wide_step n leads c t o p news olds done machine last behind_plain wide few lens total formed rest closed stands =
       let own = formed.0 in
       let head = no_tail c own in
-      let made = cell_of-IsMade c.text c.pen c own.own in
+      let made = IsMade-own c own in
       let tail = tail_of c.pen in
       let both : with_tail c ≡ c ∷ tail ∷ [] = ap (λ b. cond b (c ∷ tail_of c.pen ∷ []) (c ∷ [])) wide in
       let two : c.width ≡ 2 = omega (arith, made.few, ltb-true 1 c.width wide) in
@@ -235,7 +226,7 @@ module _ (size : Size) (before after : List (List CellValue)) (whole : Bool) (hi
       let behind_new = formed_wide c (t ∷ news) wide formed.1 in
       let is_tail : t ≡ tail = behind_new.0 in
       let differs = whole || unit_differs (o, c) (zip (p ∷ olds) (t ∷ news)) in
-      unit_then c (c ∷ t ∷ news) (o ∷ p ∷ olds) news olds done machine last behind_plain differs own (All-head HasBytes c (t ∷ news) bytes)
+      unit_then c (c ∷ t ∷ news) (o ∷ p ∷ olds) news olds done machine last behind_plain differs own
       (omega (arith, two, total)) (long ∙ ap (λ w. length done + w) (sym two))
       (units-head whole (length done) o c (zip (p ∷ olds) (t ∷ news)) head
       ∙ ap (λ u. record { column = length done; cell = c; differs = differs } ∷ u) (units-tail whole (length done + 1) p t (zip olds news) (ap (λ (f : CellValue). f.tail) is_tail)
@@ -252,28 +243,28 @@ module _ (size : Size) (before after : List (List CellValue)) (whole : Bool) (hi
       leads news olds (done ++ with_tail c) next last' behind' (omega (arith, few)) (omega (arith, lens)) (omega (arith, total, long))
       behind_new.1 (IsRest-tail p olds (IsRest-tail o (p ∷ olds) rest))
       (ap (λ l. cut_end (done ++ l)) both ∙ cut_end-append done c (tail ∷ []) ∙ ap (λ l. done ++ l) (sym both))
-      (All-tail HasBytes t news (All-tail HasBytes c (t ∷ news) bytes)) stands')
+      stands')
       stands
 
   row_by : (n : ℕ) → RowLeads n → (wide : Bool) (c o : CellValue) (news olds done : List CellValue) (machine : Machine) (last : Option Pen) (behind_plain : Bool)
       → nat_lt 1 c.width ≡ wide → length (c ∷ news) ≤ suc n → length (o ∷ olds) ≡ length (c ∷ news) → length done + length (c ∷ news) ≡ size.width
-      → IsWellFormed (c ∷ news) → IsRest (o ∷ olds) → cut_end done ≡ done → AreBytes (c ∷ news)
+      → IsWellFormed (c ∷ news) → IsRest (o ∷ olds) → cut_end done ≡ done
       → Stands machine (with_row (done ++ cut_front (o ∷ olds))) last (length before) (length done) behind_plain
       → Stands (fed machine (written last (marks_from behind_plain done (o ∷ olds) (c ∷ news)))) (with_row (done ++ c ∷ news)) (pen_after last (marks_from behind_plain done (o ∷ olds) (c ∷ news))) 0 0 false
-  row_by n leads false c o news olds done machine last behind_plain is few lens total formed rest closed bytes stands =
-      narrow_step n leads c o news olds done machine last behind_plain is few lens total formed rest closed bytes stands
-  row_by n leads true c o [] olds done machine last behind_plain is few lens total formed rest closed bytes stands = absurd (formed_wide c [] is formed.1)
-  row_by n leads true c o (t ∷ news) [] done machine last behind_plain is few lens total formed rest closed bytes stands = absurd (omega (arith, lens))
-  row_by n leads true c o (t ∷ news) (p ∷ olds) done machine last behind_plain is few lens total formed rest closed bytes stands =
-      wide_step n leads c t o p news olds done machine last behind_plain is few lens total formed rest closed bytes stands
+  row_by n leads false c o news olds done machine last behind_plain is few lens total formed rest closed stands =
+      narrow_step n leads c o news olds done machine last behind_plain is few lens total formed rest closed stands
+  row_by n leads true c o [] olds done machine last behind_plain is few lens total formed rest closed stands = absurd (formed_wide c [] is formed.1)
+  row_by n leads true c o (t ∷ news) [] done machine last behind_plain is few lens total formed rest closed stands = absurd (omega (arith, lens))
+  row_by n leads true c o (t ∷ news) (p ∷ olds) done machine last behind_plain is few lens total formed rest closed stands =
+      wide_step n leads c t o p news olds done machine last behind_plain is few lens total formed rest closed stands
 
   pub row_leads : (n : ℕ) → RowLeads n
-  row_leads n [] [] done machine last behind_plain few lens total formed rest closed bytes stands =
+  row_leads n [] [] done machine last behind_plain few lens total formed rest closed stands =
       let none : marks_from behind_plain done [] [] ≡ [] = rest_marks-end (length before) behind_plain in
       subst (λ m. Stands (fed machine (written last m)) (with_row (done ++ [])) (pen_after last m) 0 0 false) (sym none)
       (subst (λ m. Stands m (with_row (done ++ [])) last 0 0 false) (sym (fed-nothing machine)) (Stands-rest stands 0 0))
-  row_leads n [] (o ∷ olds) done machine last behind_plain few lens total formed rest closed bytes stands = absurd (omega (arith, lens))
-  row_leads zero (c ∷ news) olds done machine last behind_plain few lens total formed rest closed bytes stands = absurd (omega (arith, few))
-  row_leads (suc n) (c ∷ news) [] done machine last behind_plain few lens total formed rest closed bytes stands = absurd (omega (arith, lens))
-  row_leads (suc n) (c ∷ news) (o ∷ olds) done machine last behind_plain few lens total formed rest closed bytes stands =
-      row_by n (row_leads n) _ c o news olds done machine last behind_plain refl few lens total formed rest closed bytes stands
+  row_leads n [] (o ∷ olds) done machine last behind_plain few lens total formed rest closed stands = absurd (omega (arith, lens))
+  row_leads zero (c ∷ news) olds done machine last behind_plain few lens total formed rest closed stands = absurd (omega (arith, few))
+  row_leads (suc n) (c ∷ news) [] done machine last behind_plain few lens total formed rest closed stands = absurd (omega (arith, lens))
+  row_leads (suc n) (c ∷ news) (o ∷ olds) done machine last behind_plain few lens total formed rest closed stands =
+      row_by n (row_leads n) _ c o news olds done machine last behind_plain refl few lens total formed rest closed stands

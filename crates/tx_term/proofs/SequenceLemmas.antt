@@ -3,12 +3,12 @@ use Rattle.std.proofs.Common.{◌≡◌, ◌≤◌, ◌<◌, ℕ, List, [], ◌�
 use Rattle.std.proofs.lemmas.Bool.{le-leb, lt-ltb}
 use Rattle.std.specs.Fmt.{decimal}
 use Rattle.tx_cell.specs.declared.pen.Pen.{Pen}
-use Rattle.tx_cell.specs.declared.pen.TextStyle.{TextStyle}
+use Rattle.tx_geom.specs.declared.styles.TextStyle.{TextStyle}
 use Rattle.tx_geom.specs.declared.colours.Rgb.{Rgb}
 use Rattle.tx_term.proofs.FeedLemmas.{AreParameters, fed-sequence}
 use Rattle.tx_term.proofs.NumberLemmas.{decimal_read, decimal_stands, AreParameters-append, length-decimal3, length-decimal5}
 use Rattle.tx_term.specs.Canvas.{moved, put_held}
-use Rattle.tx_term.specs.Laws.{HasByteChannels}
+use Rattle.tx_cell.specs.Pen.{HasByteChannels}
 use Rattle.tx_term.specs.Machine.{Machine, fed, ended, run}
 use Rattle.tx_term.specs.Sequence.{numbers_behind, numbers_of, with_settings, move_command, pen_command, command_of_pen, command_of}
 use Rattle.tx_term.specs.Update.{move_bytes, pen_bytes, style_bytes, csi}

@@ -1,6 +1,6 @@
 -- Characters and texts, as they are read.
-use Rattle.std.proofs.Common.{◌≡◌, ◌≢◌, ◌≤◌, ◌<◌, ◌+◌, ◌/◌, ◌%◌, ◌==◌, ℕ, List, [], ◌∷◌, Bool, true, false, refl, arith, ap, ◌∙◌, ◌&&◌, ◌||◌, cond, nat_le, nat_lt, subst}
-use Rattle.std.proofs.lemmas.Bool.{le-leb, leb-true, leb-false, le-ltb, ltb-true, ltb-false, ne_eqb, eqb-true}
+use Rattle.std.proofs.Common.{◌≡◌, ◌≢◌, ◌≤◌, ◌<◌, ◌+◌, ◌/◌, ◌%◌, ◌==◌, ℕ, List, [], ◌∷◌, Bool, true, false, refl, arith, ap, ◌∙◌, ◌||◌, cond, nat_le, nat_lt, subst}
+use Rattle.std.proofs.lemmas.Bool.{and_parts, or_from, or_parts, leb-true, leb-false, le-ltb, ltb-true, ltb-false, ne_eqb, eqb-true}
 use Rattle.std.proofs.lemmas.Str.{IsUtf8-encode, is_utf8-from_IsUtf8}
 use Rattle.std.specs.Char.{is_control}
 use Rattle.std.specs.Int.{is_in_range}
@@ -9,17 +9,13 @@ use Rattle.std.specs.Str.{is_utf8, chars}
 use Rattle.std.specs.Str.Lossy.{utf8_valid_len, utf8_error_len, second_byte_min, second_byte_max}
 use mathlib.Core.Logic.{⊎_elim}
 use lib.Utf8.{scalar, scalars, encode, encodes, scalar_cases}
-use Rattle.tx_cell.specs.Pen.{and_first, and_second}
-use Rattle.tx_term.proofs.FeedLemmas.{fed-append, fed-cons, fed-nothing}
+use Rattle.tx_term.proofs.FeedLemmas.{fed-append, fed-cons, fed-nothing, within}
 use Rattle.tx_term.proofs.MachineLemmas.{with_bytes-whole, with_bytes-cut}
 use Rattle.tx_term.specs.Canvas.{CanvasValue, with_character}
 use Rattle.tx_term.specs.Machine.{Machine, fed, step, stage_of, longer_by, is_control_byte, is_cut, with_bytes}
 use Rattle.tx_term.specs.declared.machine.unfinished.Stage.TheVariants.{InText}
 
 -- ---- bytes that are no text yet
-
-within : (low high a : ℕ) → low ≤ a → a ≤ high → is_in_range low high a ≡ true
-within low high a above below = ap (λ b. b && nat_le a high) (le-leb low a above) ∙ le-leb a high below
 
 -- the first byte of a longer character alone
 alone_by : (b : ℕ) (two three : Bool) → nat_lt b 128 ≡ false → nat_lt b 224 ≡ two → nat_lt b 240 ≡ three → is_utf8 (b ∷ []) ≡ false
@@ -79,24 +75,13 @@ second_fits x b e0 f0 low ed f4 high = within _ _ b (least_by x b _ _ refl refl 
 
 -- ---- a byte of text
 
-neither_first : (a b : Bool) → (a || b) ≡ false → a ≡ false
-neither_first true b e = cc
-neither_first false b e = refl
-
-neither_second : (a b : Bool) → (a || b) ≡ false → b ≡ false
-neither_second true b e = cc
-neither_second false b e = e
-
-either_false : (a b : Bool) → a ≡ false → b ≡ false → (a || b) ≡ false
-either_false a b first second = ap (λ c. c || b) first ∙ second
-
 step-text : (machine : Machine) (byte : ℕ) → stage_of machine.unfinished ≡ InText → 32 ≤ byte → byte ≢ 127
     → step machine byte ≡ with_bytes (longer_by machine.unfinished byte) machine (with_bytes (byte ∷ []) machine (record machine { unfinished = [] }))
 unfolding step
 step-text machine byte stage high no_delete =
     let no_escape : (byte == 27) ≡ false = ne_eqb byte 27 (λ same. absurd (omega arith)) in
     let no_cancel : (byte == 24) ≡ false = ne_eqb byte 24 (λ same. absurd (omega arith)) in
-    let shown : is_control_byte byte ≡ false = either_false (nat_lt byte 0x20) (byte == 0x7F) (le-ltb byte 32 high) (ne_eqb byte 127 no_delete) in
+    let shown : is_control_byte byte ≡ false = or_from (nat_lt byte 0x20) (byte == 0x7F) (le-ltb byte 32 high) (ne_eqb byte 127 no_delete) in
     rw (no_escape, no_cancel, stage, shown) refl
 
 -- a byte with which a character is whole
@@ -243,5 +228,5 @@ pub fed-encodes : (cs : List ℕ) (machine : Machine) → machine.unfinished ≡
 fed-encodes [] machine ready are shown = fed-nothing machine ∙ ap (λ u. record machine { unfinished = u }) ready
 fed-encodes (c ∷ cs) machine ready are shown =
     fed-append machine (encode c) (encodes cs)
-    ∙ ap (λ m. fed m (encodes cs)) (fed-encode machine c ready (and_first _ _ are) (neither_first _ _ shown))
-    ∙ fed-encodes cs (taken machine (encode c)) refl (and_second _ _ are) (neither_second _ _ shown)
+    ∙ ap (λ m. fed m (encodes cs)) (fed-encode machine c ready (and_parts _ _ are).0 (or_parts _ _ shown).0)
+    ∙ fed-encodes cs (taken machine (encode c)) refl (and_parts _ _ are).1 (or_parts _ _ shown).1

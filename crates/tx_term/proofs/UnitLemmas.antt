@@ -1,15 +1,15 @@
 -- A unit of an update, as it is read.
 use Rattle.std.proofs.Common.{◌≡◌, ◌≤◌, ◌<◌, ◌+◌, ◌-◌, ◌==◌, ℕ, min, List, [], ◌∷◌, ◌++◌, length, Bool, true, false, refl, arith, ap, sym, ◌∙◌, ◌&&◌, cond, append-nil, Option, Some, None, subst}
 use Rattle.std.specs.Prelude.{⊤}
-use Rattle.std.proofs.lemmas.Bool.{le-leb, eqb-true}
+use Rattle.std.proofs.lemmas.Bool.{and_parts, le-leb, eqb-true}
 use Rattle.std.specs.List.{list_all}
 use Rattle.std.specs.Str.{chars}
 use mathlib.Core.Logic.{inl, inr}
-use Rattle.tx_cell.proofs.MadeLemmas.{cell_of-IsMade}
-use Rattle.tx_cell.specs.Cell.{CellValue, IsOfItsText, begins_plain, cell_of}
+use Rattle.tx_cell.proofs.lemmas.MadeCells.{IsMade-own}
+use Rattle.tx_cell.specs.Cell.{CellValue, IsOfItsText, cell_of}
 use Rattle.tx_cell.specs.Grid.{GridValue, with_put}
-use Rattle.tx_cell.specs.Pen.{and_first, and_second, pen_eq-decides}
-use Rattle.tx_cell.specs.Plain.{is_plain}
+use Rattle.tx_cell.specs.Pen.{pen_eq-decides}
+use Rattle.tx_cell.specs.Plain.{begins_plain, is_plain}
 use Rattle.tx_cell.specs.declared.pen.Pen.{Pen}
 use Rattle.tx_term.proofs.CanvasLemmas.{held-put_held}
 use Rattle.tx_term.proofs.FeedLemmas.{fed-append, pen-put_held, put_held-nothing}
@@ -17,7 +17,6 @@ use Rattle.tx_term.proofs.HeldLemmas.{LetsBegin, fed-cell_text}
 use Rattle.tx_term.proofs.SequenceLemmas.{fed-move, fed-pen}
 use Rattle.tx_term.specs.Canvas.{CanvasValue, put_held, moved, fitting, drawn, columns_of}
 use Rattle.tx_term.specs.Drawing.{unit_marks}
-use Rattle.tx_term.specs.Laws.{HasByteChannels}
 use Rattle.tx_term.specs.Machine.{Machine, fed, ended}
 use Rattle.tx_term.specs.Update.{Move, Write, written, cell_bytes, is_last_pen, is_plain_cell, move_bytes, pen_bytes}
 
@@ -33,25 +32,25 @@ holding grid row column cell = record { grid = grid; row = row; column = column;
 -- ---- the pen and the text
 
 cell_bytes_by : (machine : Machine) (cell : CellValue) (last : Option Pen) (same : Bool) → is_last_pen last cell.pen ≡ same
-    → machine.unfinished ≡ [] → IsOfItsText cell → HasByteChannels cell.pen → LetsBegin machine.canvas.held cell → IsLast last machine.canvas.pen
+    → machine.unfinished ≡ [] → IsOfItsText cell → LetsBegin machine.canvas.held cell → IsLast last machine.canvas.pen
     → fed machine (cond same [] (pen_bytes cell.pen) ++ cell.text) ≡ record machine { canvas = record (put_held machine.canvas) { pen = cell.pen; held = cell.text }; unfinished = [] }
-cell_bytes_by machine cell last false is ready own bytes lets is_last =
+cell_bytes_by machine cell last false is ready own lets is_last =
     let next = record (ended machine) { canvas = record (put_held machine.canvas) { pen = cell.pen } } in
     let nothing : next.canvas.held ≡ [] = held-put_held machine.canvas in
     fed-append machine (pen_bytes cell.pen) cell.text
-    ∙ ap (λ m. fed m cell.text) (fed-pen machine cell.pen bytes)
+    ∙ ap (λ m. fed m cell.text) (fed-pen machine cell.pen own.channels)
     ∙ fed-cell_text next cell refl own (inl nothing)
     ∙ ap (λ (c : CanvasValue). record next { canvas = record c { held = cell.text } }) (put_held-nothing next.canvas nothing)
-cell_bytes_by machine cell None true is ready own bytes lets is_last = cc
-cell_bytes_by machine cell (Some last) true is ready own bytes lets is_last =
+cell_bytes_by machine cell None true is ready own lets is_last = cc
+cell_bytes_by machine cell (Some last) true is ready own lets is_last =
     let same : machine.canvas.pen ≡ cell.pen = sym is_last ∙ (pen_eq-decides last cell.pen).0 is in
     fed-cell_text machine cell ready own lets
     ∙ ap (λ pen. record machine { canvas = record (put_held machine.canvas) { pen = pen; held = cell.text }; unfinished = [] }) (pen-put_held machine.canvas ∙ same)
 
-fed-cell_bytes : (machine : Machine) (cell : CellValue) (last : Option Pen) → machine.unfinished ≡ [] → IsOfItsText cell → HasByteChannels cell.pen
+fed-cell_bytes : (machine : Machine) (cell : CellValue) (last : Option Pen) → machine.unfinished ≡ [] → IsOfItsText cell
     → LetsBegin machine.canvas.held cell → IsLast last machine.canvas.pen
     → fed machine (cell_bytes last cell) ≡ record machine { canvas = record (put_held machine.canvas) { pen = cell.pen; held = cell.text }; unfinished = [] }
-fed-cell_bytes machine cell last ready own bytes lets is_last = cell_bytes_by machine cell last (is_last_pen last cell.pen) refl ready own bytes lets is_last
+fed-cell_bytes machine cell last ready own lets is_last = cell_bytes_by machine cell last (is_last_pen last cell.pen) refl ready own lets is_last
 
 -- ---- a unit
 
@@ -75,27 +74,27 @@ pub record Holds (machine : Machine) (grid : GridValue) (row column : ℕ) (cell
   pub canvas : machine.canvas ≡ holding grid row column cell
 
 unit_by : (machine : Machine) (grid : GridValue) (last : Option Pen) (row column : ℕ) (behind_plain goes_on : Bool) (cell : CellValue)
-    → (behind_plain && is_plain_cell cell) ≡ goes_on → Stands machine grid last row column behind_plain → IsOfItsText cell → HasByteChannels cell.pen
+    → (behind_plain && is_plain_cell cell) ≡ goes_on → Stands machine grid last row column behind_plain → IsOfItsText cell
     → row < grid.size.height → column < grid.size.width → grid.size.height ≤ 65535 → grid.size.width ≤ 65535
     → Holds (fed machine (written last ((cond goes_on [] (Move (row + 1) (column + 1) ∷ [])) ++ Write cell ∷ []))) grid row column cell
-unit_by machine grid last row column behind_plain true cell is stands own bytes below beside high wide =
-    let follows = stands.follows (and_first _ _ is) in
+unit_by machine grid last row column behind_plain true cell is stands own below beside high wide =
+    let follows = stands.follows (and_parts _ _ is).0 in
     let put = put_held machine.canvas in
     let e = ap (fed machine) (append-nil (cell_bytes last cell))
-    ∙ fed-cell_bytes machine cell last stands.ready own bytes (inr (follows.plain, and_second _ _ is)) stands.pen in
+    ∙ fed-cell_bytes machine cell last stands.ready own (inr (follows.plain, (and_parts _ _ is).1)) stands.pen in
     record {
       ready = ap (λ (m : Machine). m.unfinished) e;
       canvas = ap (λ (m : Machine). m.canvas) e
           ∙ (λ i. record { grid = stands.drawn i; row = follows.at_row i; column = follows.at_column i; pen = cell.pen; held = cell.text });
     }
-unit_by machine grid last row column behind_plain false cell is stands own bytes below beside high wide =
+unit_by machine grid last row column behind_plain false cell is stands own below beside high wide =
     let put = put_held machine.canvas in
     let next = record (ended machine) { canvas = moved (row + 1) (column + 1) put } in
     let nothing : next.canvas.held ≡ [] = held-put_held machine.canvas in
     let e = fed-append machine (move_bytes (row + 1) (column + 1)) (cell_bytes last cell ++ [])
     ∙ ap (λ m. fed m (cell_bytes last cell ++ [])) (fed-move machine (row + 1) (column + 1) (omega arith) (omega arith) (omega arith) (omega arith))
     ∙ ap (fed next) (append-nil (cell_bytes last cell))
-    ∙ fed-cell_bytes next cell last refl own bytes (inl nothing) (subst (IsLast last) (sym (pen-put_held machine.canvas)) stands.pen)
+    ∙ fed-cell_bytes next cell last refl own (inl nothing) (subst (IsLast last) (sym (pen-put_held machine.canvas)) stands.pen)
     ∙ ap (λ (c : CanvasValue). record next { canvas = record c { pen = cell.pen; held = cell.text } }) (put_held-nothing next.canvas nothing) in
     let height : put.grid.size.height ≡ grid.size.height = ap (λ (g : GridValue). g.size.height) stands.drawn in
     let width : put.grid.size.width ≡ grid.size.width = ap (λ (g : GridValue). g.size.width) stands.drawn in
@@ -119,7 +118,7 @@ put_held-holding grid row column cell own inside =
 begins_by : (cs : List ℕ) (one : Bool) → (length cs == 1) ≡ one → (one && list_all is_plain cs) ≡ true → begins_plain cs ≡ true
 begins_by cs false is plain = cc
 begins_by [] true is plain = absurd (let some : length {A = ℕ} [] ≡ 1 = eqb-true _ _ is in omega (arith, some))
-begins_by (c ∷ cs) true is plain = and_first _ _ plain
+begins_by (c ∷ cs) true is plain = (and_parts _ _ plain).0
 
 plain_begins : (cell : CellValue) → is_plain_cell cell ≡ true → begins_plain (chars cell.text) ≡ true
 unfolding is_plain_cell
@@ -127,12 +126,12 @@ plain_begins cell plain = begins_by (chars cell.text) _ refl plain
 
 -- what a unit that is written makes of the machine
 pub Stands-unit : (machine : Machine) (grid : GridValue) (last : Option Pen) (row column : ℕ) (behind_plain : Bool) (cell : CellValue)
-    → Stands machine grid last row column behind_plain → IsOfItsText cell → HasByteChannels cell.pen
+    → Stands machine grid last row column behind_plain → IsOfItsText cell
     → row < grid.size.height → column + cell.width ≤ grid.size.width → grid.size.height ≤ 65535 → grid.size.width ≤ 65535
     → Stands (fed machine (written last (unit_marks row column behind_plain cell))) (with_put grid column row cell) (Some cell.pen) row (column + cell.width) (is_plain_cell cell)
-Stands-unit machine grid last row column behind_plain cell stands own bytes below inside high wide =
-    let made = cell_of-IsMade cell.text cell.pen cell own.own in
-    let holds = unit_by machine grid last row column behind_plain (behind_plain && is_plain_cell cell) cell refl stands own bytes below (omega (arith, made.some)) high wide in
+Stands-unit machine grid last row column behind_plain cell stands own below inside high wide =
+    let made = IsMade-own cell own in
+    let holds = unit_by machine grid last row column behind_plain (behind_plain && is_plain_cell cell) cell refl stands own below (omega (arith, made.some)) high wide in
     let put = ap put_held holds.canvas ∙ put_held-holding grid row column cell own inside in
     record {
       ready = holds.ready;

@@ -2,10 +2,11 @@
 use Rattle.std.specs.Prelude.{◌≡◌, ◌≤◌, ◌<◌, ℕ, ◌+◌, ◌-◌, min, nat_le, nat_lt, false, ◌&&◌, List, [], ◌++◌, length, Option, Some, None, if◌then◌else◌}
 use Rattle.std.specs.Str.{chars}
 use Rattle.tx_geom.specs.declared.places.Size.{Size}
-use Rattle.tx_cell.specs.Cell.{CellValue, blank, begins_plain, cell_of}
+use Rattle.tx_cell.specs.Cell.{CellValue, blank, cell_of, most_bytes}
 use Rattle.tx_cell.specs.Grid.{GridValue, filled, with_put}
+use Rattle.tx_cell.specs.Pen.{white_on_black}
+use Rattle.tx_cell.specs.Plain.{begins_plain}
 use Rattle.tx_cell.specs.declared.pen.Pen.{Pen}
-use Rattle.tx_term.specs.Sequence.{default_pen}
 
 -- the cells without the one that is held, the cursor counted from 0, which may stand one column behind the last, the
 -- pen, and the text of the held cell, which is empty where none is held
@@ -51,9 +52,9 @@ shown_grid canvas = drawn canvas.grid canvas.column canvas.row (held_cell canvas
 abbrev pub ready_for : List ℕ → CanvasValue → CanvasValue
 ready_for character canvas = if begins_plain (chars canvas.held) && begins_plain (chars character) then put_held canvas else canvas
 
--- a character joins what is held, which may be nothing, and is dropped where that would be more than 32 bytes
+-- a character joins what is held, which may be nothing, and is dropped where that would be more bytes than a cell has
 abbrev pub joined_by : List ℕ → CanvasValue → CanvasValue
-joined_by character canvas = if nat_lt 32 (length canvas.held + length character) then canvas else record canvas { held = canvas.held ++ character }
+joined_by character canvas = if nat_lt most_bytes (length canvas.held + length character) then canvas else record canvas { held = canvas.held ++ character }
 
 -- a character comes: it joins the held cell, or begins another one
 unfoldable pub with_character : List ℕ → CanvasValue → CanvasValue
@@ -69,7 +70,7 @@ erased canvas = record canvas { grid = filled canvas.grid.size (blank canvas.pen
 
 -- blanks of white on black, the cursor in the first place, and nothing held
 abbrev pub opened_canvas : Size → CanvasValue
-opened_canvas size = record { grid = filled size (blank default_pen); row = 0; column = 0; pen = default_pen; held = [] }
+opened_canvas size = record { grid = filled size (blank white_on_black); row = 0; column = 0; pen = white_on_black; held = [] }
 
 -- the cursor is in a row, and at most one column behind the last
 pub record IsInside (canvas : CanvasValue) : Type 0 where

@@ -2,7 +2,7 @@
 use Rattle.std.specs.Prelude.{◌≡◌, ◌≤◌, ◌+◌, ◌*◌, ℕ, List, [], ◌∷◌, ◌++◌, length, drop, Option, Some, Bool, false, ◌&&◌, if◌then◌else◌, flat_map}
 use Rattle.tx_cell.specs.Cell.{CellValue}
 use Rattle.tx_cell.specs.declared.pen.Pen.{Pen}
-use Rattle.tx_io.specs.Sending.{SinkSeen}
+use Rattle.tx_io.specs.Sink.{SinkSeen}
 use Rattle.tx_term.specs.Gather.{Adds, handed}
 use Rattle.tx_term.specs.Update.{Mark, Move, Write, Unit, written, is_plain_cell, run_marks, runs, units}
 use Rattle.tx_term.specs.declared.update.writer.Writer.{Writer}

@@ -2,7 +2,7 @@
 use Rattle.std.specs.Prelude.{◌≡◌, ◌≤◌, ◌<◌, ◌+◌, ℕ, List, ◌++◌, length, take, Bool, true, false, if◌then◌else◌}
 use Rattle.std.specs.Io.KnownBytes.{append_known}
 use Rattle.tx_io.specs.Faults.{raised}
-use Rattle.tx_io.specs.Sending.{SinkSeen}
+use Rattle.tx_io.specs.Sink.{SinkSeen}
 
 -- the bytes that wait, how many were taken before them, and whether a put failed
 pub record Gathered : Type 0 where

@@ -1,26 +1,14 @@
 -- What an update makes of the terminal.
-use Rattle.std.specs.Prelude.{◌≡◌, ◌≤◌, true, false, All}
-use Rattle.tx_cell.specs.Cell.{CellValue}
+use Rattle.std.specs.Prelude.{◌≡◌, ◌≤◌, true, false}
 use Rattle.tx_cell.specs.Grid.{GridValue, IsGrid}
-use Rattle.tx_cell.specs.declared.pen.Pen.{Pen}
 use Rattle.tx_term.specs.Machine.{Machine, Shows, fed, screen}
 use Rattle.tx_term.specs.Update.{update}
 
--- each channel of the colours is a byte
-pub record HasByteChannels (pen : Pen) : Type 0 where
-  pub fore_r : pen.fore.r ≤ 255
-  pub fore_g : pen.fore.g ≤ 255
-  pub fore_b : pen.fore.b ≤ 255
-  pub back_r : pen.back.r ≤ 255
-  pub back_g : pen.back.g ≤ 255
-  pub back_b : pen.back.b ≤ 255
-
--- a grid that an update can lead to: well formed, with sides of at most 65,535 and pens of bytes
+-- a grid that an update can lead to: one with sides of at most 65,535
 pub record IsScreen (grid : GridValue) : Type 0 where
   pub formed : IsGrid grid
   pub height : grid.size.height ≤ 65535
   pub width : grid.size.width ≤ 65535
-  pub bytes : All (λ row. All (λ (cell : CellValue). HasByteChannels cell.pen) row) grid.rows
 
 -- From what a terminal shows an update leads it to the next grid.
 abbrev pub UpdatesLead : Type 0

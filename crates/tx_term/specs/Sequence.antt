@@ -1,6 +1,7 @@
 -- Control sequences of ECMA-48: the numbers in them, and what each of them asks for.
 use Rattle.std.specs.Prelude.{ℕ, ◌+◌, ◌-◌, ◌*◌, ◌==◌, nat_le, nat_lt, min, Bool, true, false, ◌&&◌, ◌||◌, List, [], ◌∷◌, ◌++◌, Option, Some, None, unwrap_or, option_and_then, if◌then◌else◌}
 use Rattle.std.specs.Char.{is_ascii_digit}
+use Rattle.tx_cell.specs.Pen.{white_on_black}
 use Rattle.tx_cell.specs.declared.pen.Pen.{Pen}
 use Rattle.tx_term.specs.declared.machine.command.Command.{Command}
 use Rattle.tx_term.specs.declared.machine.command.Command.TheVariants.{Nothing, Move, Erase, SetPen, ShowCursor, Alternate}
@@ -37,18 +38,10 @@ private_numbers_of (mark ∷ bytes) = if mark == 63 then numbers_of bytes else N
 
 -- ---- the pen
 
--- white on black
-abbrev pub default_pen : Pen
-default_pen = record {
-  fore = record { r = 255; g = 255; b = 255 };
-  back = record { r = 0; g = 0; b = 0 };
-  style = record { bold = false; dim = false; italic = false; underline = false; reverse = false; strike = false };
-}
-
--- the pen that one number makes of another: the default one, or one more mark
+-- the pen that one number makes of another: the default one, which is white on black, or one more mark
 abbrev pub with_mark : ℕ → Pen → Option Pen
 with_mark number pen =
-    if number == 0 then Some default_pen
+    if number == 0 then Some white_on_black
     else if number == 1 then Some (record pen { style = record pen.style { bold = true } })
     else if number == 2 then Some (record pen { style = record pen.style { dim = true } })
     else if number == 3 then Some (record pen { style = record pen.style { italic = true } })

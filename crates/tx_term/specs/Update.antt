@@ -9,7 +9,7 @@ use Rattle.tx_cell.specs.Pen.{pen_eq}
 use Rattle.tx_cell.specs.Plain.{is_plain}
 use Rattle.tx_cell.specs.Same.{cell_eq}
 use Rattle.tx_cell.specs.declared.pen.Pen.{Pen}
-use Rattle.tx_cell.specs.declared.pen.TextStyle.{TextStyle}
+use Rattle.tx_geom.specs.declared.styles.TextStyle.{TextStyle}
 
 -- ---- cells
 

@@ -6,7 +6,6 @@
 //! and with colours as `38;2;r;g;b` and `48;2;r;g;b`.
 #![tactic(auto)]
 
-mod bytes;
 pub mod laws;
 mod machine;
 #[cfg(test)]

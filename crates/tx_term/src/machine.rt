@@ -1,12 +1,11 @@
 //! A terminal that reads bytes and shows cells.
-ghost use Rattle.std.specs.Prelude.{◌≡◌, ◌≤◌, ◌<◌, ◌||◌, [], ◌∷◌, false, IfOk};
+ghost use Rattle.std.specs.Prelude.{◌≡◌, ◌≤◌, ◌||◌, [], ◌∷◌, false, IfOk};
 ghost use Rattle.std.specs.Str.{is_utf8};
-ghost use Rattle.tx_term.specs.Canvas.{put_held, with_character};
+ghost use Rattle.tx_term.specs.Canvas.{with_character};
 ghost use Rattle.tx_term.specs.Machine.{Machine, opened, screen_of, run, ended, escape_byte, last_command, last_byte, sequence_byte, is_control_byte, is_cut, with_bytes, text_byte, step, fed};
 
 mod canvas;
 mod command;
-mod held;
 mod numbers;
 mod settings;
 mod unfinished;
@@ -18,9 +17,9 @@ use std::marker::Model;
 use std::str;
 use tx_cell::Grid;
 use tx_geom::Size;
-use unfinished::{MOST, Stage, Unfinished, parameters};
-
-const ESC: u8 = 0x1B;
+use unfinished::{
+    ESC, MOST, Stage, Unfinished, longer_by, one, parameters, sequence_start, stage_of,
+};
 
 const CAN: u8 = 0x18;
 
@@ -42,7 +41,7 @@ impl Model for Terminal {
 
     ghost Value = { Machine };
 
-    ghost view = { λ t. record { canvas = t.canvas; cursor_shown = t.cursor_shown; alternate = t.alternate; unfinished = t.unfinished } };
+    ghost view = { λ t. record { canvas = t.canvas; cursor_shown = t.cursor_shown; alternate = t.alternate; unfinished = t.unfinished.items } };
 }
 
 impl Terminal {
@@ -86,7 +85,7 @@ impl Terminal {
         match byte {
             ESC => self.begin_sequence(),
             CAN => self.end(),
-            _ => match self.unfinished.stage() {
+            _ => match stage_of(self.unfinished.as_slice()) {
                 Stage::InText => self.text_byte(byte),
                 Stage::InEscape => self.escape_byte(byte),
                 Stage::InSequence => self.sequence_byte(byte),
@@ -99,14 +98,14 @@ impl Terminal {
         ensures { self.new ≡ ended self.old }
     {
         self.canvas.put_held();
-        self.unfinished = Unfinished::new();
+        self.unfinished.clear();
     }
 
     fn begin_sequence(&mut self)
         ensures { self.new ≡ record (ended self.old) { unfinished = 27 ∷ [] } }
     {
         self.canvas.put_held();
-        self.unfinished = Unfinished::of(ESC);
+        self.unfinished = one(ESC);
     }
 
     /// A byte behind ESC.
@@ -114,7 +113,7 @@ impl Terminal {
         ensures { self.new ≡ escape_byte self.old byte }
     {
         self.unfinished = if byte == b'[' {
-            Unfinished::of_sequence()
+            sequence_start()
         } else {
             Unfinished::new()
         };
@@ -125,9 +124,9 @@ impl Terminal {
         ensures { self.new ≡ sequence_byte self.old byte }
     {
         match byte {
-            0x20..=0x3F => self.unfinished = self.unfinished.longer_by(byte),
+            0x20..=0x3F => self.unfinished = longer_by(&self.unfinished, byte),
             0x40..=0x7E => self.last_byte(byte),
-            _ => self.unfinished = Unfinished::new(),
+            _ => self.unfinished.clear(),
         }
     }
 
@@ -171,24 +170,24 @@ impl Terminal {
         ensures { self.new ≡ text_byte self.old byte }
     {
         if is_control_byte(byte) {
-            self.unfinished = Unfinished::new();
+            self.unfinished.clear();
             return;
         }
-        let longer = self.unfinished.longer_by(byte);
+        let longer = longer_by(&self.unfinished, byte);
         if self.take(longer) {
             return;
         }
-        if self.take(Unfinished::of(byte)) {
+        if self.take(one(byte)) {
             return;
         }
-        self.unfinished = Unfinished::new();
+        self.unfinished.clear();
     }
 
     /// Takes the bytes of a character, or of the beginning of one. Answers whether they are that.
     #[tactic(auto, unfolding(crate::specs::Machine::with_bytes))]
     fn take(&mut self, bytes: Unfinished) -> bool
-        ensures known { result ≡ is_utf8 bytes || is_cut bytes }
-        ensures taken { self.new ≡ with_bytes bytes self.old self.old }
+        ensures known { result ≡ is_utf8 bytes.items || is_cut bytes.items }
+        ensures taken { self.new ≡ with_bytes bytes.items self.old self.old }
     {
         if let Ok(text) = str::from_utf8(bytes.as_slice()) {
             self.take_character(text);
@@ -205,7 +204,7 @@ impl Terminal {
         ensures { self.new ≡ record self.old { canvas = with_character character.now self.old.canvas; unfinished = [] } }
     {
         self.canvas.take(character);
-        self.unfinished = Unfinished::new();
+        self.unfinished.clear();
     }
 }
 

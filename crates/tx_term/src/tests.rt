@@ -36,7 +36,7 @@ fn blank_grid(rt: &HostRuntime, width: u32, height: u32, pen: Pen) -> Result<Gri
 fn put(grid: &mut Grid, x: u32, y: u32, text: &str, pen: Pen) -> Option<()> {
     let cell = Cell::of(text, pen)?;
     let size = grid.size();
-    if cell.tail() || y >= size.height || x as u64 + cell.width() as u64 > size.width as u64 {
+    if y >= size.height || x as u64 + cell.width() as u64 > size.width as u64 {
         return None;
     }
     grid.put(x, y, cell);

@@ -1,6 +1,6 @@
 //! The update, gathered and sent.
 ghost use Rattle.std.specs.Prelude.{◌≡◌, ◌≤◌, ◌<◌, ◌+◌, ◌^◌, [], true, false, if◌then◌else◌};
-ghost use Rattle.tx_io.specs.Sending.{Sends, seen};
+ghost use Rattle.tx_io.specs.Sending.{Sends};
 ghost use Rattle.tx_term.specs.Gather.{Adds, handed};
 ghost use Rattle.tx_term.specs.Update.{update, opening};
 
@@ -28,7 +28,7 @@ pub fn present<K: Sink>(shown: &mut Grid, next: &Grid, whole: bool, sink: &mut K
     requires width { next.now.size.width ≤ 65535 }
     requires height { next.now.size.height ≤ 65535 }
 
-    ensures sent { Sends (seen (K.taken sink.old) (K.faults sink.old)) (seen (K.taken sink.new) (K.faults sink.new)) (update shown.old next.now whole) result }
+    ensures sent { Sends (K.seen sink.old) (K.seen sink.new) (update shown.old next.now whole) result }
     ensures shown { result.failed ≡ false → shown.new ≡ next.now }
     ensures kept { result.failed ≡ true → shown.new ≡ shown.old }
 {
@@ -43,7 +43,7 @@ fn send_update<K: Sink>(shown: &Grid, next: &Grid, whole: bool, sink: &mut K) ->
     requires same_size { shown.now.size ≡ next.now.size }
     requires width { next.now.size.width ≤ 65535 }
     requires height { next.now.size.height ≤ 65535 }
-    ensures { Sends (seen (K.taken sink.old) (K.faults sink.old)) (seen (K.taken sink.new) (K.faults sink.new)) (update shown.now next.now whole) result }
+    ensures { Sends (K.seen sink.old) (K.seen sink.new) (update shown.now next.now whole) result }
 {
     let mut writer = Writer::new();
     push_opening(&mut writer.gather, sink, whole);
@@ -54,7 +54,7 @@ fn send_update<K: Sink>(shown: &Grid, next: &Grid, whole: bool, sink: &mut K) ->
 
 fn push_opening<K: Sink>(gather: &mut Gather, sink: &mut K, whole: bool)
     requires counted { handed gather.old + 64 < 2 ^ 64 }
-    ensures added { Adds (seen (K.taken sink.old) (K.faults sink.old)) (seen (K.taken sink.new) (K.faults sink.new)) gather.old gather.new (if whole then opening else []) }
+    ensures added { Adds (K.seen sink.old) (K.seen sink.new) gather.old gather.new (if whole then opening else []) }
     ensures bounded { handed gather.new ≤ handed gather.old + 64 }
 {
     if whole {

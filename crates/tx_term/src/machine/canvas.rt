@@ -1,21 +1,18 @@
 //! What characters draw.
-ghost use Rattle.std.specs.Prelude.{◌≡◌, ◌≤◌, ◌<◌, ◌+◌, ◌++◌, [], false, not, nat_lt, ◌&&◌, length, IfOk, IfSome};
+ghost use Rattle.std.specs.Prelude.{◌≡◌, ◌≤◌, ◌<◌, ◌+◌, ◌++◌, [], not, nat_lt, length, IfOk};
 ghost use Rattle.std.specs.Option.{ForSome};
-ghost use Rattle.std.specs.Str.{chars};
 ghost use Rattle.tx_cell.specs.Grid.{GridValue};
-ghost use Rattle.tx_cell.specs.Cell.{cell_of, begins_plain};
-ghost use Rattle.tx_cell.specs.Plain.{is_plain};
-ghost use Rattle.tx_term.specs.Canvas.{CanvasValue, IsInside, fitting, held_cell, drawn, columns_of, put_held, shown_grid, ready_for, with_character, moved, erased, opened_canvas, IsPutAt};
+ghost use Rattle.tx_cell.specs.Cell.{cell_of, most_bytes};
+ghost use Rattle.tx_term.specs.Canvas.{CanvasValue, fitting, drawn, columns_of, put_held, shown_grid, ready_for, with_character, moved, erased, opened_canvas, IsPutAt};
 
-use crate::machine::held::Held;
-use crate::machine::settings::default_pen;
+use arrayvec::ArrayString;
 use std::alloc::{AllocError, Global};
 use std::marker::Model;
-use tx_cell::{Cell, Grid, Pen};
+use tx_cell::{Cell, Grid, Pen, begins_plain};
 use tx_geom::Size;
 
-/// The most bytes of a cell's text.
-const TEXT_BYTES: usize = 32;
+/// The text of a cell.
+type Held = ArrayString<{ Cell::MOST_BYTES }>;
 
 /// A grid, a cursor, a pen, and the cell that is held until it is known to be whole.
 #[derive(Drop)]
@@ -35,9 +32,9 @@ impl Model for Canvas {
 
     ghost Value = { CanvasValue };
 
-    ghost view = { λ c. record { grid = c.grid; row = c.row; column = c.column; pen = c.pen; held = c.held } };
+    ghost view = { λ c. record { grid = c.grid; row = c.row; column = c.column; pen = c.pen; held = c.held.bytes } };
 
-    ghost invariant = { λ c. IsKept c.shown (record { grid = c.grid; row = c.row; column = c.column; pen = c.pen; held = c.held }) };
+    ghost invariant = { λ c. IsKept c.shown (record { grid = c.grid; row = c.row; column = c.column; pen = c.pen; held = c.held.bytes }) };
 }
 
 impl Canvas {
@@ -45,7 +42,7 @@ impl Canvas {
         requires height { 1 ≤ size.height }
         ensures { IfOk result (λ canvas. canvas ≡ opened_canvas size) }
     {
-        let pen = default_pen();
+        let pen = Pen::WHITE_ON_BLACK;
         let grid = Grid::open(alloc, size, Cell::blank(pen))?;
         let shown = Grid::open(alloc, size, Cell::blank(pen))?;
         Ok(Canvas {
@@ -84,7 +81,7 @@ impl Canvas {
 
     /// A character that joins what is held.
     fn join(&mut self, character: &str)
-        requires room { length self.old.held + length character.now ≤ 32 }
+        requires room { length self.old.held + length character.now ≤ most_bytes }
         ensures { self.new ≡ record self.old { held = self.old.held ++ character.now } }
     {
         let width = self.grid.size().width;
@@ -95,24 +92,17 @@ impl Canvas {
         draw(&mut self.shown, self.column, self.row, cell);
     }
 
-    /// Whether the held text begins with a plain character.
-    fn holds_plain(&self) -> bool
-        ensures { result ≡ begins_plain (chars self.now.held) }
-    {
-        begins_plain(self.held.as_str())
-    }
-
     fn has_room_for(&self, character: &str) -> bool
-        ensures { result ≡ not (nat_lt 32 (length self.now.held + length character.now)) }
+        ensures { result ≡ not (nat_lt most_bytes (length self.now.held + length character.now)) }
     {
-        self.held.as_str().len() + character.len() <= TEXT_BYTES
+        character.len() <= self.held.remaining_capacity()
     }
 
     /// Puts what is held where the character begins another cell.
     fn make_ready_for(&mut self, character: &str)
         ensures { self.new ≡ ready_for character.now self.old }
     {
-        if self.holds_plain() && begins_plain(character) {
+        if begins_plain(self.held.as_str()) && begins_plain(character) {
             self.put_held();
         }
     }
@@ -194,21 +184,5 @@ fn take_back(grid: &mut Grid, before: &Grid, column: u32, row: u32, cell: Option
 {
     if let Some(_) = cell {
         grid.take_back(before, column, row);
-    }
-}
-
-/// A character that is shown in one column whatever stands beside it.
-fn is_plain(character: char) -> bool
-    ensures { result ≡ is_plain character }
-{
-    matches!(character, '\u{20}'..='\u{7E}' | '\u{2500}'..='\u{259F}')
-}
-
-fn begins_plain(text: &str) -> bool
-    ensures { result ≡ begins_plain (chars text.now) }
-{
-    match text.chars().next() {
-        None => false,
-        Some(first) => is_plain(first),
     }
 }

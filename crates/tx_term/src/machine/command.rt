@@ -1,6 +1,7 @@
 //! What a sequence asks for.
-ghost use Rattle.std.specs.Prelude.{◌≡◌, ◌<◌, length, option_and_then};
-ghost use Rattle.tx_term.specs.Sequence.{move_command, erase_command, pen_command, mode_command, numbers_of, private_numbers_of, command_of};
+ghost use Rattle.std.specs.Prelude.{◌≡◌, ◌<◌, length};
+ghost use Rattle.tx_term.specs.Numbers.{numbers_in};
+ghost use Rattle.tx_term.specs.Sequence.{move_command, erase_command, pen_command, mode_command, command_of};
 
 use crate::machine::numbers::{Numbers, numbers_of, private_numbers_of};
 use crate::machine::settings::with_settings;
@@ -20,7 +21,7 @@ pub enum Command {
 }
 
 fn move_command(numbers: Option<Numbers>) -> Command
-    ensures { result ≡ move_command numbers }
+    ensures { result ≡ move_command (numbers_in numbers) }
 {
     let Some(numbers) = numbers else {
         return Command::Nothing;
@@ -32,7 +33,7 @@ fn move_command(numbers: Option<Numbers>) -> Command
 }
 
 fn erase_command(numbers: Option<Numbers>) -> Command
-    ensures { result ≡ erase_command numbers }
+    ensures { result ≡ erase_command (numbers_in numbers) }
 {
     let Some(numbers) = numbers else {
         return Command::Nothing;
@@ -44,7 +45,7 @@ fn erase_command(numbers: Option<Numbers>) -> Command
 }
 
 fn pen_command(numbers: Option<Numbers>, pen: Pen) -> Command
-    ensures { result ≡ pen_command numbers pen }
+    ensures { result ≡ pen_command (numbers_in numbers) pen }
 {
     let Some(numbers) = numbers else {
         return Command::Nothing;
@@ -56,7 +57,7 @@ fn pen_command(numbers: Option<Numbers>, pen: Pen) -> Command
 }
 
 fn mode_command(on: bool, numbers: Option<Numbers>) -> Command
-    ensures { result ≡ mode_command on numbers }
+    ensures { result ≡ mode_command on (numbers_in numbers) }
 {
     let Some(numbers) = numbers else {
         return Command::Nothing;

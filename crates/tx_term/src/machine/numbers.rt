@@ -1,52 +1,13 @@
 //! The numbers of a sequence.
-ghost use Rattle.std.specs.Prelude.{◌≡◌, ◌≤◌, ◌<◌, [], ◌∷◌, ◌++◌, length, take};
+ghost use Rattle.std.specs.Prelude.{◌≡◌, ◌<◌, length};
+ghost use Rattle.tx_term.specs.Numbers.{numbers_in};
 ghost use Rattle.tx_term.specs.Sequence.{with_digit, numbers_of, private_numbers_of};
 
-use std::marker::Model;
+use crate::machine::unfinished::MOST;
+use arrayvec::ArrayVec;
 
-const ROOM: usize = 64;
-
-/// At most 64 numbers.
-#[derive(Drop)]
-pub struct Numbers {
-    items: [u32; ROOM],
-    count: usize,
-}
-
-impl Model for Numbers {
-    ghost use Rattle.std.specs.Prelude.{List, ℕ, take, ◌≤◌};
-
-    ghost Value = { List ℕ };
-
-    ghost view = { λ n. take n.count n.items };
-
-    ghost invariant = { λ n. n.count ≤ 64 };
-}
-
-impl Numbers {
-    fn new() -> Numbers
-        ensures { result ≡ [] }
-    {
-        Numbers {
-            items: [0; ROOM],
-            count: 0,
-        }
-    }
-
-    fn push(&mut self, number: u32)
-        requires room { length self.old < 64 }
-        ensures { self.new ≡ self.old ++ number ∷ [] }
-    {
-        self.items[self.count] = number;
-        self.count += 1;
-    }
-
-    pub fn as_slice(&self) -> &[u32]
-        ensures { result.now ≡ self.now }
-    {
-        &self.items[..self.count]
-    }
-}
+/// At most 64 numbers, since each has a byte or more.
+pub type Numbers = ArrayVec<u32, MOST>;
 
 /// A number with one more digit, or one that begins. What is past the type counts as its greatest
 /// number.
@@ -62,7 +23,7 @@ fn with_digit(before: Option<u32>, digit: u8) -> u32
 /// stands there.
 pub fn numbers_of(bytes: &[u8]) -> Option<Numbers>
     requires short { length bytes.now < 64 }
-    ensures { result ≡ numbers_of bytes.now }
+    ensures { numbers_in result ≡ numbers_of bytes.now }
 {
     let mut numbers = Numbers::new();
     let mut here: Option<u32> = None;
@@ -89,7 +50,7 @@ pub fn numbers_of(bytes: &[u8]) -> Option<Numbers>
 /// The numbers behind a question mark.
 pub fn private_numbers_of(bytes: &[u8]) -> Option<Numbers>
     requires short { length bytes.now < 64 }
-    ensures { result ≡ private_numbers_of bytes.now }
+    ensures { numbers_in result ≡ private_numbers_of bytes.now }
 {
     match bytes {
         [b'?', rest @ ..] => numbers_of(rest),

@@ -1,31 +1,9 @@
 //! The pen that an SGR sequence sets.
 ghost use Rattle.std.specs.Prelude.{◌≡◌};
-ghost use Rattle.tx_term.specs.Sequence.{default_pen, with_mark, is_colour, with_colour, with_settings};
+ghost use Rattle.tx_term.specs.Sequence.{with_mark, is_colour, with_colour, with_settings};
 
-use tx_cell::{Pen, TextStyle};
+use tx_cell::Pen;
 use tx_geom::Rgb;
-
-/// White on black.
-pub fn default_pen() -> Pen
-    ensures { result ≡ default_pen }
-{
-    Pen {
-        fore: Rgb {
-            r: 255,
-            g: 255,
-            b: 255,
-        },
-        back: Rgb { r: 0, g: 0, b: 0 },
-        style: TextStyle {
-            bold: false,
-            dim: false,
-            italic: false,
-            underline: false,
-            reverse: false,
-            strike: false,
-        },
-    }
-}
 
 /// The pen that one number makes of another: the default one, or one more mark.
 fn with_mark(number: u32, pen: Pen) -> Option<Pen>
@@ -33,7 +11,7 @@ fn with_mark(number: u32, pen: Pen) -> Option<Pen>
 {
     let mut pen = pen;
     match number {
-        0 => return Some(default_pen()),
+        0 => return Some(Pen::WHITE_ON_BLACK),
         1 => pen.style.bold = true,
         2 => pen.style.dim = true,
         3 => pen.style.italic = true,

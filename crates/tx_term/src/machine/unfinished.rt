@@ -1,13 +1,16 @@
 //! The bytes of a sequence or of a character whose end hasn't come.
-ghost use Rattle.std.specs.Prelude.{◌≡◌, ◌≤◌, ◌∷◌, [], length, drop, take};
+ghost use Rattle.std.specs.Prelude.{◌≡◌, ◌∷◌, [], drop};
 ghost use Rattle.tx_term.specs.Machine.{longer_by, stage_of};
 
-use std::marker::Model;
+use arrayvec::ArrayVec;
 
 /// The most bytes of a sequence that does something.
 pub const MOST: usize = 64;
 
-const ESC: u8 = 0x1B;
+pub const ESC: u8 = 0x1B;
+
+/// At most 64 bytes.
+pub type Unfinished = ArrayVec<u8, MOST>;
 
 /// Where in the stream the next byte stands: in the text, behind ESC, or behind `ESC [`.
 #[derive(Clone, Copy)]
@@ -17,80 +20,39 @@ pub enum Stage {
     InSequence,
 }
 
-/// At most 64 bytes.
-#[derive(Drop)]
-pub struct Unfinished {
-    bytes: [u8; MOST],
-    len: usize,
+/// One byte.
+pub fn one(byte: u8) -> Unfinished
+    ensures { result.items ≡ byte ∷ [] }
+{
+    let mut bytes = Unfinished::new();
+    bytes.push(byte);
+    bytes
 }
 
-impl Model for Unfinished {
-    ghost use Rattle.std.specs.Prelude.{List, ℕ, take, ◌≤◌};
-
-    ghost Value = { List ℕ };
-
-    ghost view = { λ u. take u.len u.bytes };
-
-    ghost invariant = { λ u. u.len ≤ 64 };
+/// ESC and `[`.
+pub fn sequence_start() -> Unfinished
+    ensures { result.items ≡ 27 ∷ 91 ∷ [] }
+{
+    let mut bytes = one(ESC);
+    bytes.push(b'[');
+    bytes
 }
 
-impl Unfinished {
-    pub fn new() -> Unfinished
-        ensures { result ≡ [] }
-    {
-        Unfinished {
-            bytes: [0; MOST],
-            len: 0,
-        }
+/// These bytes and one more, where there is room for it.
+pub fn longer_by(bytes: &Unfinished, byte: u8) -> Unfinished
+    ensures { result.items ≡ longer_by bytes.now.items byte }
+{
+    let mut longer = Unfinished::new();
+    let Ok(()) = longer.try_extend_from_slice(bytes.as_slice()) else {
+        unreachable!()
+    };
+    if !longer.is_full() {
+        longer.push(byte);
     }
-
-    /// One byte.
-    pub fn of(byte: u8) -> Unfinished
-        ensures { result ≡ byte ∷ [] }
-    {
-        let mut bytes = [0; MOST];
-        bytes[0] = byte;
-        Unfinished { bytes, len: 1 }
-    }
-
-    /// ESC and `[`.
-    pub fn of_sequence() -> Unfinished
-        ensures { result ≡ 27 ∷ 91 ∷ [] }
-    {
-        let mut bytes = [0; MOST];
-        bytes[0] = ESC;
-        bytes[1] = b'[';
-        Unfinished { bytes, len: 2 }
-    }
-
-    /// These bytes and one more, where there is room for it.
-    pub fn longer_by(&self, byte: u8) -> Unfinished
-        ensures { result ≡ longer_by self.now byte }
-    {
-        let mut bytes = self.bytes;
-        let mut len = self.len;
-        if len < MOST {
-            bytes[len] = byte;
-            len += 1;
-        }
-        Unfinished { bytes, len }
-    }
-
-    pub fn as_slice(&self) -> &[u8]
-        ensures value { result.now ≡ self.now }
-        ensures short { length self.now ≤ 64 }
-    {
-        &self.bytes[..self.len]
-    }
-
-    pub fn stage(&self) -> Stage
-        ensures { result ≡ stage_of self.now }
-    {
-        stage_of(self.as_slice())
-    }
+    longer
 }
 
-fn stage_of(bytes: &[u8]) -> Stage
+pub fn stage_of(bytes: &[u8]) -> Stage
     ensures { result ≡ stage_of bytes.now }
 {
     match bytes {

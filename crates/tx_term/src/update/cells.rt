@@ -1,12 +1,12 @@
 //! Which cells differ, and which are plain.
-ghost use Rattle.std.specs.Prelude.{◌≡◌, ◌<◌, ◌+◌, ◌∷◌, not, length, zip, drop, slice_index};
+ghost use Rattle.std.specs.Prelude.{◌≡◌, not, length, zip};
 ghost use Rattle.std.specs.List.{list_all};
 ghost use Rattle.std.specs.Str.{chars};
 ghost use Rattle.tx_cell.specs.Plain.{is_plain};
 ghost use Rattle.tx_cell.specs.Same.{cell_eq};
 ghost use Rattle.tx_term.specs.Update.{is_plain_cell, first_differ, unit_differs};
 
-use tx_cell::Cell;
+use tx_cell::{Cell, is_plain};
 
 /// Whether two cells differ in text, width, tail mark or pen.
 pub fn differ(shown: &Cell, next: &Cell) -> bool
@@ -30,7 +30,7 @@ fn first_differ(shown: &[Cell], next: &[Cell]) -> bool
 
 /// Whether the text of a cell is one plain character.
 #[tactic(auto, unfolding(crate::specs::Update::is_plain_cell))]
-pub fn is_plain(cell: &Cell) -> bool
+pub fn is_plain_cell(cell: &Cell) -> bool
     ensures { result ≡ is_plain_cell cell.now }
 {
     character_count(cell.text()) == 1 && all_plain(cell.text())
@@ -45,13 +45,7 @@ fn character_count(text: &str) -> usize
 fn all_plain(text: &str) -> bool
     ensures { result ≡ list_all is_plain (chars text.now) }
 {
-    text.chars().all(|character| is_plain_character(character))
-}
-
-fn is_plain_character(character: char) -> bool
-    ensures { result ≡ is_plain character }
-{
-    matches!(character, '\u{20}'..='\u{7E}' | '\u{2500}'..='\u{259F}')
+    text.chars().all(|character| is_plain(character))
 }
 
 /// Whether a unit differs: its cell, or the tail behind it. The slices are what stands behind the

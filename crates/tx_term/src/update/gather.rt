@@ -1,9 +1,8 @@
 //! A buffer before a sink, so that many small pieces are few puts.
-ghost use Rattle.std.specs.Prelude.{◌≡◌, ◌≤◌, ◌<◌, ◌+◌, ◌^◌, [], ◌++◌, true, false, length, take};
-ghost use Rattle.tx_io.specs.Sending.{seen};
+ghost use Rattle.std.specs.Prelude.{◌≡◌, ◌≤◌, ◌<◌, ◌+◌, ◌^◌, [], false, length};
 ghost use Rattle.tx_term.specs.Gather.{Gathered, Adds, handed};
 
-use crate::bytes::append;
+use arrayvec::ArrayVec;
 use std::marker::Model;
 use tx_io::{Sent, Sink, send_all};
 
@@ -13,8 +12,7 @@ const ROOM: usize = 8192;
 /// nothing more is put.
 #[derive(Drop)]
 pub struct Gather {
-    buffer: [u8; ROOM],
-    filled: usize,
+    waiting: ArrayVec<u8, ROOM>,
     taken: u64,
     failed: bool,
 }
@@ -22,9 +20,7 @@ pub struct Gather {
 impl Model for Gather {
     ghost Value = { Gathered };
 
-    ghost view = { λ g. record { waiting = take g.filled g.buffer; taken = g.taken; failed = g.failed } };
-
-    ghost invariant = { λ g. g.filled ≤ 8192 };
+    ghost view = { λ g. record { waiting = g.waiting.items; taken = g.taken; failed = g.failed } };
 }
 
 impl Gather {
@@ -32,8 +28,7 @@ impl Gather {
         ensures { result ≡ record { waiting = []; taken = 0; failed = false } }
     {
         Gather {
-            buffer: [0; ROOM],
-            filled: 0,
+            waiting: ArrayVec::new(),
             taken: 0,
             failed: false,
         }
@@ -43,31 +38,32 @@ impl Gather {
     pub fn push<K: Sink>(&mut self, sink: &mut K, piece: &[u8])
         requires short { length piece.now ≤ 64 }
         requires counted { handed self.old + length piece.now < 2 ^ 64 }
-        ensures added { Adds (seen (K.taken sink.old) (K.faults sink.old)) (seen (K.taken sink.new) (K.faults sink.new)) self.old self.new piece.now }
+        ensures added { Adds (K.seen sink.old) (K.seen sink.new) self.old self.new piece.now }
         ensures bounded { handed self.new ≤ handed self.old + length piece.now }
     {
-        if piece.len() > ROOM - self.filled {
+        if piece.len() > self.waiting.remaining_capacity() {
             self.flush(sink);
         }
         if self.failed {
             return;
         }
-        append(&mut self.buffer, self.filled, piece);
-        self.filled += piece.len();
+        let Ok(()) = self.waiting.try_extend_from_slice(piece) else {
+            unreachable!()
+        };
     }
 
     /// Puts all that waits.
     pub fn flush<K: Sink>(&mut self, sink: &mut K)
         requires counted { handed self.old < 2 ^ 64 }
-        ensures added { Adds (seen (K.taken sink.old) (K.faults sink.old)) (seen (K.taken sink.new) (K.faults sink.new)) self.old self.new [] }
+        ensures added { Adds (K.seen sink.old) (K.seen sink.new) self.old self.new [] }
         ensures bounded { handed self.new ≤ handed self.old }
         ensures empty { self.new.failed ≡ false → self.new.waiting ≡ [] }
     {
         if self.failed {
             return;
         }
-        let sent = send_all(sink, &self.buffer[..self.filled]);
-        self.filled = 0;
+        let sent = send_all(sink, self.waiting.as_slice());
+        self.waiting.clear();
         self.taken += sent.taken;
         self.failed = sent.failed;
     }

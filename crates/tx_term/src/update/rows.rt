@@ -1,6 +1,5 @@
 //! The rows of a grid, one unit after another.
 ghost use Rattle.std.specs.Prelude.{◌≡◌, ◌≤◌, ◌<◌, ◌+◌, ◌*◌, ◌^◌, ◌||◌, length, zip};
-ghost use Rattle.tx_io.specs.Sending.{seen};
 ghost use Rattle.tx_term.specs.Drawing.{Draws, DrawsColumn};
 ghost use Rattle.tx_term.specs.Gather.{handed};
 ghost use Rattle.tx_term.specs.Update.{row_marks, rows_marks, unit_differs};
@@ -25,7 +24,7 @@ fn write_column<K: Sink>(
     requires row { row < 65535 }
     requires column { column < 65535 }
     requires counted { handed writer.old.gather + 1024 < 2 ^ 64 }
-    ensures { DrawsColumn (seen (K.taken sink.old) (K.faults sink.old)) (seen (K.taken sink.new) (K.faults sink.new)) writer.old writer.new row column whole behind_plain result (zip shown.now next.now) }
+    ensures { DrawsColumn (K.seen sink.old) (K.seen sink.new) writer.old writer.new row column whole behind_plain result (zip shown.now next.now) }
 {
     let [old, behind_old @ ..] = shown else {
         return behind_plain;
@@ -67,7 +66,7 @@ fn write_row<K: Sink>(
     requires same { length shown.now ≡ length next.now }
     requires width { length next.now ≤ 65535 }
     requires counted { handed writer.old.gather + 1024 * length next.now + 1024 < 2 ^ 64 }
-    ensures drawn { Draws (seen (K.taken sink.old) (K.faults sink.old)) (seen (K.taken sink.new) (K.faults sink.new)) writer.old writer.new (row_marks whole row shown.now next.now) }
+    ensures drawn { Draws (K.seen sink.old) (K.seen sink.new) writer.old writer.new (row_marks whole row shown.now next.now) }
     ensures few { length (row_marks whole row shown.now next.now) ≤ 131070 }
 {
     let mut behind_plain = false;
@@ -99,7 +98,7 @@ pub fn write_rows<K: Sink>(
     requires width { next.now.size.width ≤ 65535 }
     requires height { next.now.size.height ≤ 65535 }
     requires counted { handed writer.old.gather < 2 ^ 62 }
-    ensures drawn { Draws (seen (K.taken sink.old) (K.faults sink.old)) (seen (K.taken sink.new) (K.faults sink.new)) writer.old writer.new (rows_marks whole 0 shown.now.rows next.now.rows) }
+    ensures drawn { Draws (K.seen sink.old) (K.seen sink.new) writer.old writer.new (rows_marks whole 0 shown.now.rows next.now.rows) }
     ensures counted { handed writer.new.gather < 2 ^ 63 }
 {
     for row in 0..next.size().height {

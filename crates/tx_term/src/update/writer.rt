@@ -1,11 +1,10 @@
 //! Moves, pens and cells in bytes.
 ghost use Rattle.std.specs.Prelude.{◌≡◌, ◌≤◌, ◌<◌, ◌+◌, ◌^◌, ◌∷◌, [], None, false, length, ◌&&◌, if◌then◌else◌, decimal};
-ghost use Rattle.tx_io.specs.Sending.{seen};
 ghost use Rattle.tx_term.specs.Drawing.{Draws, unit_marks};
 ghost use Rattle.tx_term.specs.Gather.{Adds, handed};
-ghost use Rattle.tx_term.specs.Update.{move_bytes, style_bytes, channel_bytes, pen_bytes, cell_bytes, is_last_pen, is_plain_cell, Move, Write};
+ghost use Rattle.tx_term.specs.Update.{move_bytes, style_bytes, channel_bytes, pen_bytes, is_last_pen, is_plain_cell, Move, Write};
 
-use crate::update::cells::is_plain;
+use crate::update::cells::is_plain_cell;
 use crate::update::gather::Gather;
 use itoa::Buffer;
 use tx_cell::{Cell, Pen, TextStyle};
@@ -21,7 +20,7 @@ pub struct Writer {
 
 fn push_number<K: Sink>(gather: &mut Gather, sink: &mut K, number: u32)
     requires counted { handed gather.old + 40 < 2 ^ 64 }
-    ensures added { Adds (seen (K.taken sink.old) (K.faults sink.old)) (seen (K.taken sink.new) (K.faults sink.new)) gather.old gather.new (decimal number) }
+    ensures added { Adds (K.seen sink.old) (K.seen sink.new) gather.old gather.new (decimal number) }
     ensures bounded { handed gather.new ≤ handed gather.old + 40 }
 {
     let mut buffer = Buffer::new();
@@ -30,7 +29,7 @@ fn push_number<K: Sink>(gather: &mut Gather, sink: &mut K, number: u32)
 
 fn push_move<K: Sink>(gather: &mut Gather, sink: &mut K, row: u32, column: u32)
     requires counted { handed gather.old + 84 < 2 ^ 64 }
-    ensures added { Adds (seen (K.taken sink.old) (K.faults sink.old)) (seen (K.taken sink.new) (K.faults sink.new)) gather.old gather.new (move_bytes row column) }
+    ensures added { Adds (K.seen sink.old) (K.seen sink.new) gather.old gather.new (move_bytes row column) }
     ensures bounded { handed gather.new ≤ handed gather.old + 84 }
 {
     gather.push(sink, b"\x1b[");
@@ -42,7 +41,7 @@ fn push_move<K: Sink>(gather: &mut Gather, sink: &mut K, row: u32, column: u32)
 
 fn push_channels<K: Sink>(gather: &mut Gather, sink: &mut K, colour: Rgb)
     requires counted { handed gather.old + 122 < 2 ^ 64 }
-    ensures added { Adds (seen (K.taken sink.old) (K.faults sink.old)) (seen (K.taken sink.new) (K.faults sink.new)) gather.old gather.new (channel_bytes colour) }
+    ensures added { Adds (K.seen sink.old) (K.seen sink.new) gather.old gather.new (channel_bytes colour) }
     ensures bounded { handed gather.new ≤ handed gather.old + 122 }
 {
     push_number(gather, sink, colour.r as u32);
@@ -55,7 +54,7 @@ fn push_channels<K: Sink>(gather: &mut Gather, sink: &mut K, colour: Rgb)
 fn push_if<K: Sink>(gather: &mut Gather, sink: &mut K, set: bool, piece: &[u8])
     requires short { length piece.now ≤ 2 }
     requires counted { handed gather.old + 2 < 2 ^ 64 }
-    ensures added { Adds (seen (K.taken sink.old) (K.faults sink.old)) (seen (K.taken sink.new) (K.faults sink.new)) gather.old gather.new (if set then piece.now else []) }
+    ensures added { Adds (K.seen sink.old) (K.seen sink.new) gather.old gather.new (if set then piece.now else []) }
     ensures bounded { handed gather.new ≤ handed gather.old + 2 }
 {
     if set {
@@ -65,7 +64,7 @@ fn push_if<K: Sink>(gather: &mut Gather, sink: &mut K, set: bool, piece: &[u8])
 
 fn push_style<K: Sink>(gather: &mut Gather, sink: &mut K, style: TextStyle)
     requires counted { handed gather.old + 12 < 2 ^ 64 }
-    ensures added { Adds (seen (K.taken sink.old) (K.faults sink.old)) (seen (K.taken sink.new) (K.faults sink.new)) gather.old gather.new (style_bytes style) }
+    ensures added { Adds (K.seen sink.old) (K.seen sink.new) gather.old gather.new (style_bytes style) }
     ensures bounded { handed gather.new ≤ handed gather.old + 12 }
 {
     push_if(gather, sink, style.bold, b";1");
@@ -78,7 +77,7 @@ fn push_style<K: Sink>(gather: &mut Gather, sink: &mut K, style: TextStyle)
 
 fn push_pen<K: Sink>(gather: &mut Gather, sink: &mut K, pen: Pen)
     requires counted { handed gather.old + 300 < 2 ^ 64 }
-    ensures added { Adds (seen (K.taken sink.old) (K.faults sink.old)) (seen (K.taken sink.new) (K.faults sink.new)) gather.old gather.new (pen_bytes pen) }
+    ensures added { Adds (K.seen sink.old) (K.seen sink.new) gather.old gather.new (pen_bytes pen) }
     ensures bounded { handed gather.new ≤ handed gather.old + 300 }
 {
     gather.push(sink, b"\x1b[0");
@@ -102,7 +101,7 @@ fn is_last(last: Option<Pen>, pen: Pen) -> bool
 
 fn push_new_pen<K: Sink>(gather: &mut Gather, sink: &mut K, last: Option<Pen>, pen: Pen)
     requires counted { handed gather.old + 300 < 2 ^ 64 }
-    ensures added { Adds (seen (K.taken sink.old) (K.faults sink.old)) (seen (K.taken sink.new) (K.faults sink.new)) gather.old gather.new (if is_last_pen last pen then [] else pen_bytes pen) }
+    ensures added { Adds (K.seen sink.old) (K.seen sink.new) gather.old gather.new (if is_last_pen last pen then [] else pen_bytes pen) }
     ensures bounded { handed gather.new ≤ handed gather.old + 300 }
 {
     if !is_last(last, pen) {
@@ -123,7 +122,7 @@ impl Writer {
     /// A move to a row and a column, counted from 1.
     fn move_to<K: Sink>(&mut self, sink: &mut K, row: u32, column: u32)
         requires counted { handed self.old.gather + 512 < 2 ^ 64 }
-        ensures { Draws (seen (K.taken sink.old) (K.faults sink.old)) (seen (K.taken sink.new) (K.faults sink.new)) self.old self.new (Move row column ∷ []) }
+        ensures { Draws (K.seen sink.old) (K.seen sink.new) self.old self.new (Move row column ∷ []) }
     {
         push_move(&mut self.gather, sink, row, column);
     }
@@ -140,7 +139,7 @@ impl Writer {
         requires row { row < 65535 }
         requires column { column < 65535 }
         requires counted { handed self.old.gather + 512 < 2 ^ 64 }
-        ensures { Draws (seen (K.taken sink.old) (K.faults sink.old)) (seen (K.taken sink.new) (K.faults sink.new)) self.old self.new (if behind_plain && plain then [] else Move (row + 1) (column + 1) ∷ []) }
+        ensures { Draws (K.seen sink.old) (K.seen sink.new) self.old self.new (if behind_plain && plain then [] else Move (row + 1) (column + 1) ∷ []) }
     {
         if !(behind_plain && plain) {
             self.move_to(sink, row + 1, column + 1);
@@ -150,7 +149,7 @@ impl Writer {
     /// A cell.
     fn write<K: Sink>(&mut self, sink: &mut K, cell: &Cell)
         requires counted { handed self.old.gather + 512 < 2 ^ 64 }
-        ensures { Draws (seen (K.taken sink.old) (K.faults sink.old)) (seen (K.taken sink.new) (K.faults sink.new)) self.old self.new (Write cell.now ∷ []) }
+        ensures { Draws (K.seen sink.old) (K.seen sink.new) self.old self.new (Write cell.now ∷ []) }
     {
         let pen = cell.pen();
         push_new_pen(&mut self.gather, sink, self.pen, pen);
@@ -171,10 +170,10 @@ impl Writer {
         requires row { row < 65535 }
         requires column { column < 65535 }
         requires counted { handed self.old.gather + 1024 < 2 ^ 64 }
-        ensures drawn { Draws (seen (K.taken sink.old) (K.faults sink.old)) (seen (K.taken sink.new) (K.faults sink.new)) self.old self.new (unit_marks row column behind_plain cell.now) }
+        ensures drawn { Draws (K.seen sink.old) (K.seen sink.new) self.old self.new (unit_marks row column behind_plain cell.now) }
         ensures plain { result ≡ is_plain_cell cell.now }
     {
-        let plain = is_plain(cell);
+        let plain = is_plain_cell(cell);
         self.move_before(sink, row, column, behind_plain, plain);
         self.write(sink, cell);
         plain

@@ -1,6 +1,5 @@
 use Rattle.std.proofs.Common.{◌≡◌, ◌≤◌, ◌*◌, List, ◌++◌, length, drop, zip, false}
 use Rattle.tx_term.specs.Drawing.{Draws, rest_marks}
-use Rattle.tx_io.specs.Sending.{seen}
 use Rattle.tx_term.specs.Update.{Mark, units}
 use Rattle.tx_term.proofs.update.rows.write_row.Given as goal
 
@@ -8,7 +7,7 @@ use Rattle.tx_term.proofs.update.rows.write_row.Given as goal
 abbrev pub invariant-loop-column : goal.invariant-loop-column
 invariant-loop-column g l = record {
   marks : List Mark;
-  drawn : Draws (seen (g.K.Sink.taken l.fn.sink) (g.K.Sink.faults l.fn.sink)) (seen (g.K.Sink.taken l.sink) (g.K.Sink.faults l.sink)) l.fn.writer l.writer marks;
+  drawn : Draws (g.K.Sink.seen l.fn.sink) (g.K.Sink.seen l.sink) l.fn.writer l.writer marks;
   few : length marks ≤ 2 * l.column;
   rest : rest_marks l.row false (units l.whole 0 (zip l.shown l.next)) ≡ marks ++ rest_marks l.row l.behind_plain (units l.whole l.column (drop l.column (zip l.shown l.next)));
 }

@@ -10,4 +10,4 @@ draw-requires-clause-cell c = c.fitting_cell-cell.ensures.inside c.self.inside.g
 pub invariant_of-self : goal.invariant_of-self
 unfolding put_held
 invariant_of-self c =
-    rw (c.draw.ensures.drawn, c.draw.ensures.columns, c.clear.ensures, c.fitting_cell-cell.ensures.cell, c.as_str.ensures.text, c.size-width.ensures.size) (IsKept-put _ _ c.self.invariant)
+    rw (c.draw.ensures.drawn, c.draw.ensures.columns, c.clear.ensures, c.fitting_cell-cell.ensures.cell, c.as_str.ensures.value, c.size-width.ensures.size) (IsKept-put _ _ c.self.invariant)

@@ -5,5 +5,6 @@ pub returns-clause-added : goal.returns-clause-added
 returns-clause-added g c = record {
   behind = λ before all q.
       let queued = rw (← c.self.view_is) at q in
-      Queues-sent before _ _ _ _ all _ _ c.if-self.false c.send_all-sent.ensures queued;
+      let sends = rw c.as_slice.ensures.value at c.send_all-sent.ensures in
+      rw c.clear.ensures (Queues-sent before _ _ all _ _ c.if-self.false sends queued);
 }
