@@ -1,14 +1,14 @@
 -- One row changes.
-use Rattle.std.proofs.Common.{◌≡◌, ◌≢◌, ℕ, zero, suc, ◌+◌, ◌<◌, ◌≤◌, ◌==◌, Bool, true, false, cond, List, [], ◌∷◌, ◌++◌, map, Option, Some, None, is_some, refl, sym, ap, subst, ◌∙◌, arith, length, set, append_assoc, ◌⊎◌, inl, inr}
+use Rattle.std.proofs.Common.{◌≡◌, ◌≢◌, ℕ, suc, ◌+◌, ◌<◌, ◌≤◌, ◌==◌, Bool, true, false, cond, List, [], ◌∷◌, ◌++◌, Option, Some, None, is_some, refl, sym, ap, ◌∙◌, arith, length, set, inl, inr}
 use Rattle.std.specs.Prelude.{flat_map}
 use Rattle.std.specs.Option.{option_map_or}
 use Rattle.std.proofs.lemmas.Bool.{cases_eq, eq-eqb}
 use Rattle.std.proofs.lemmas.List.{get_or-set_same, get_or-set_other, length-set}
 use Rattle.tx_tree.proofs.Counting.{none-head, none-tail}
-use Rattle.tx_tree.proofs.RowLists.{Splits, split-once}
-use Rattle.tx_tree.proofs.Linked.{rows_at-node, Live, children_live, Agree}
-use Rattle.tx_tree.proofs.Context.{Context, same-children, cut_at}
-use Rattle.tx_tree.proofs.Lookups.{row_in, row_at-slot, not_nowhere, at_most_once}
+use Rattle.tx_tree.proofs.RowLists.{split-once}
+use Rattle.tx_tree.proofs.Linked.{rows_at-node, Live, children_live}
+use Rattle.tx_tree.proofs.Context.{same-children, cut_at}
+use Rattle.tx_tree.proofs.Lookups.{row_at-slot, not_nowhere, at_most_once}
 use Rattle.tx_tree.proofs.Mounting.{Agree-apart, node-same}
 use Rattle.tx_tree.proofs.MountedNodes.{in_bounds}
 use Rattle.tx_tree.specs.Kind.{holds_children, is_screen}
@@ -17,9 +17,12 @@ use Rattle.tx_tree.specs.Rows.{count_of}
 use Rattle.tx_tree.proofs.DroppedNodes.{live_node}
 use Rattle.tx_tree.specs.Classes.{ClassList}
 use Rattle.tx_tree.specs.Edits.{changed_at, with_classes, classes_of}
-use Rattle.tx_tree.specs.Links.{Slots, slots, rows_at, rows_of, times, children_in, place_in, id_in, spare_in, behind_in, with_row, with_own_classes, classes_in, IsNode, IsLinked, KeepsNext, KeepsIds, IsKept, KeepsRoom}
+use Rattle.tx_tree.specs.Changes.{changed_by}
+use Rattle.tx_tree.specs.Links.{Slots, slots, rows_at, rows_of, times, children_in, place_in, id_in, spare_in, behind_in, with_row, with_own_classes, classes_in, IsNode, IsLinked, IsKept, KeepsRoom}
 use Rattle.tx_tree.specs.declared.row.Row.{Row}
 use Rattle.tx_tree.specs.declared.tree.node.Node.{Node}
+use Rattle.tx_tree.specs.declared.tree.set.Change.{Change}
+use Rattle.tx_tree.specs.declared.tree.set.Change.TheVariants.{Text, Inline, Disabled, State}
 
 -- a change of one row leaves other rows
 changed-none : (n : ℕ) (change : Row → Row) (rows : List Row) → count_of n rows ≡ 0 → changed_at n change rows ≡ rows
@@ -146,15 +149,32 @@ changed-same n change same (row ∷ rows) =
       either false = refl
 
 -- what a change of a row leaves, by the slot
-pub set-done : (nodes n2 : List (Option Node)) (behind : List ℕ) (find : List ℕ → Option ℕ) (n : ℕ) (change : Row → Row) → IsKept nodes behind find
-    → is_some (slots nodes n) ≡ true → ((node : Node) → Keeps node (change node.row)) → ((row : Row) → change (plain row) ≡ plain (change row))
-    → ((row : Row) → (change row).classes.spare ≡ row.classes.spare) → n2 ≡ set nodes n (with_row change (slots nodes n))
-    → IsKept n2 behind find × (rows_of (slots n2) ≡ changed_at n change (rows_of (slots nodes))) × KeepsRoom nodes n2
-set-done nodes n2 behind find n change kept live keeps commutes spare done =
+pub change-done : (nodes n2 : List (Option Node)) (behind : List ℕ) (find : List ℕ → Option ℕ) (n : ℕ) (change : Change) → IsKept nodes behind find
+    → is_some (slots nodes n) ≡ true → n2 ≡ set nodes n (with_row (changed_by change) (slots nodes n))
+    → IsKept n2 behind find × (rows_of (slots n2) ≡ changed_at n (changed_by change) (rows_of (slots nodes))) × KeepsRoom nodes n2
+change-done nodes n2 behind find n change kept live done =
     let (node, is) = live_node (slots nodes n) live in
-    let r = changed-done nodes n2 behind find n node (change node.row) kept is (keeps node)
-    (done ∙ ap (λ (o : Option Node). set nodes n (with_row change o)) is) change (commutes node.row) in
-    (r.0, r.1, r.2 (let e = spare node.row in omega (arith, e)))
+    let r = changed-done nodes n2 behind find n node (changed_by change node.row) kept is (keeps change)
+    (done ∙ ap (λ (o : Option Node). set nodes n (with_row (changed_by change) o)) is) (changed_by change) (commutes change node.row) in
+    (r.0, r.1, r.2 (let e = spare change node.row in omega (arith, e)))
+  where
+    keeps : (change : Change) {node : Node} → Keeps node (changed_by change node.row)
+    keeps (Text text) = record { number = refl; depth = refl; kind = refl; id = refl }
+    keeps (Inline text) = record { number = refl; depth = refl; kind = refl; id = refl }
+    keeps (Disabled to) = record { number = refl; depth = refl; kind = refl; id = refl }
+    keeps (State text private) = record { number = refl; depth = refl; kind = refl; id = refl }
+
+    commutes : (change : Change) (row : Row) → changed_by change (plain row) ≡ plain (changed_by change row)
+    commutes (Text text) row = refl
+    commutes (Inline text) row = refl
+    commutes (Disabled to) row = refl
+    commutes (State text private) row = refl
+
+    spare : (change : Change) (row : Row) → (changed_by change row).classes.spare ≡ row.classes.spare
+    spare (Text text) row = refl
+    spare (Inline text) row = refl
+    spare (Disabled to) row = refl
+    spare (State text private) row = refl
 
 -- and where the row's classes change
 pub classes-done : (nodes n2 : List (Option Node)) (behind : List ℕ) (find : List ℕ → Option ℕ) (n : ℕ) (classes : ClassList) (change : List (List ℕ) → List (List ℕ)) → IsKept nodes behind find

@@ -1,14 +1,15 @@
 -- The rows around a node's own, whatever is below it.
-use Rattle.std.proofs.Common.{◌≡◌, ◌≢◌, ℕ, zero, suc, ◌+◌, ◌-◌, ◌<◌, ◌≤◌, Bool, true, false, cond, nat_lt, List, [], ◌∷◌, ◌++◌, Option, Some, None, refl, sym, ap, subst, ◌∙◌, arith, append_assoc, append-nil, ◌⊎◌, inl, inr}
+use Rattle.std.proofs.Common.{◌≡◌, ◌≢◌, ℕ, zero, suc, ◌+◌, ◌-◌, ◌<◌, ◌≤◌, false, nat_lt, List, [], ◌∷◌, ◌++◌, Some, refl, sym, ap, ◌∙◌, arith, append_assoc, append-nil, inl, inr}
 use Rattle.std.specs.Prelude.{flat_map}
-use Rattle.std.proofs.lemmas.Bool.{cases_eq, cases_lt, eq-eqb, ne_eqb, le-ltb, lt-ltb}
+use Rattle.std.proofs.lemmas.Bool.{cases_eq, cases_lt, eq-eqb, le-ltb, lt-ltb}
 use Rattle.std.proofs.lemmas.List.Concat.{flat_map-append}
-use Rattle.tx_tree.proofs.Numbers.{times-head, times-tail, times-append, Cut, cut}
-use Rattle.tx_tree.proofs.RowLists.{count_of-append, AllDeeper, AllDeeper-append, AllDeeper-less, Splits}
-use Rattle.tx_tree.proofs.Linked.{rows_at-node, rows_at-zero, rows_of-is, Live, node_of_place, node_of_child, Agree, Agree-refl, Agree-left, Agree-right, children_live, not_root, children_once, reach, once}
-use Rattle.tx_tree.specs.Row.{plain, has_number}
+use Rattle.tx_tree.proofs.Numbers.{times-head, times-tail, times-append, cut}
+use Rattle.tx_tree.proofs.lemmas.NumbersAndIds.{count_of-append}
+use Rattle.tx_tree.proofs.RowLists.{AllDeeper, AllDeeper-append, Splits}
+use Rattle.tx_tree.proofs.Linked.{rows_at-node, rows_at-zero, rows_of-is, Live, node_of_place, node_of_child, Agree, Agree-refl, Agree-left, Agree-right, children_live, not_root, once}
+use Rattle.tx_tree.specs.Row.{plain}
 use Rattle.tx_tree.specs.Rows.{count_of, deeper}
-use Rattle.tx_tree.specs.Links.{Slots, rows_from, rows_at, rows_of, times, children_in, place_in, parent_in, depth_in, IsNode, IsLinked}
+use Rattle.tx_tree.specs.Links.{Slots, rows_at, rows_of, times, depth_in, IsLinked}
 use Rattle.tx_tree.specs.declared.row.Row.{Row}
 use Rattle.tx_tree.specs.declared.tree.node.Node.{Node}
 

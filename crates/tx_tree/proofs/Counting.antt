@@ -1,5 +1,5 @@
 -- Tests that add up to counts.
-use Rattle.std.proofs.Common.{◌≡◌, ◌≢◌, ℕ, ◌+◌, ◌<◌, ◌≤◌, Bool, true, false, cond, refl, arith}
+use Rattle.std.proofs.Common.{◌≡◌, ℕ, ◌+◌, Bool, true, false, cond, refl, arith}
 
 -- a count of none starts with a test that fails
 pub none-head : (b : Bool) (c : ℕ) → cond b 1 0 + c ≡ 0 → b ≡ false

@@ -1,22 +1,23 @@
 -- A node without children goes, over the list of nodes.
-use Rattle.std.proofs.Common.{◌≡◌, ◌≢◌, ℕ, zero, suc, ◌+◌, ◌-◌, ◌<◌, ◌≤◌, Bool, true, false, cond, List, [], ◌∷◌, ◌++◌, Option, Some, None, is_some, refl, sym, ap, subst, ◌∙◌, arith, length, set, get_or, ◌⊎◌, inl, inr}
+use Rattle.std.proofs.Common.{◌≡◌, ◌≢◌, ℕ, suc, ◌<◌, true, false, cond, List, [], ◌∷◌, ◌++◌, Option, Some, None, is_some, refl, sym, ap, subst, ◌∙◌, arith, length, set, inl, inr}
 use Rattle.std.specs.Prelude.{slice_index, unwrap_or}
-use Rattle.std.proofs.lemmas.Bool.{cases_eq, cases_lt, cases_Bool, cond-true, cond-false, false≢true}
+use Rattle.std.proofs.lemmas.Bool.{cases_eq, cases_Bool, cond-true, cond-false, false≢true}
 use Rattle.std.proofs.lemmas.List.{get_or-set_same, get_or-set_other, length-set}
 use Rattle.std.specs.Option.{option_eq}
 use Rattle.std.specs.Str.{bytes_eq}
 use Rattle.tx_tree.proofs.Numbers.{ahead_of-cut, past_of-cut, times-append}
 use Rattle.tx_tree.proofs.NextSiblings.{empty_or_last}
-use Rattle.tx_tree.proofs.Linked.{node_of_place, not_root}
-use Rattle.tx_tree.proofs.Lookups.{not_nowhere, Below, below}
+use Rattle.tx_tree.proofs.Linked.{node_of_place}
+use Rattle.tx_tree.proofs.Lookups.{Below, below}
 use Rattle.tx_tree.proofs.Mounting.{node-same}
 use Rattle.tx_tree.proofs.MountedNodes.{in_bounds}
-use Rattle.tx_tree.proofs.Ids.{id_from_test, test_from_id}
+use Rattle.tx_tree.proofs.lemmas.NumbersAndIds.{id_from_test}
+use Rattle.tx_tree.proofs.Ids.{test_from_id}
 use Rattle.tx_tree.proofs.Follows.{follows-drop, stays-drop, last-stands, Follows, Once}
 use Rattle.tx_tree.proofs.KeptNext.{sound_of, keeps-next, follows-of, once-of, bound-of, stands-of}
-use Rattle.tx_tree.proofs.Dropping.{Drops, linked-drop, rows-drop, same-place, times-kept, not_own}
+use Rattle.tx_tree.proofs.Dropping.{Drops, linked-drop, rows-drop, same-place, times-kept}
 use Rattle.tx_tree.specs.Rows.{has_id, removed}
-use Rattle.tx_tree.specs.Links.{Slots, slots, rows_of, times, children_in, place_in, parent_in, last_or_zero, past_of, ahead_in, without_child, with_children, id_in, spare_in, IsLinked, KeepsNext, KeepsIds, IsKept, KeepsRoom}
+use Rattle.tx_tree.specs.Links.{slots, rows_of, times, children_in, place_in, parent_in, last_or_zero, past_of, ahead_in, without_child, with_children, id_in, spare_in, KeepsNext, KeepsIds, IsKept, KeepsRoom}
 use Rattle.tx_tree.specs.declared.row.Row.{Row}
 use Rattle.tx_tree.specs.declared.tree.node.Node.{Node}
 

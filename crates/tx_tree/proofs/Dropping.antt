@@ -1,18 +1,18 @@
 -- A node without children goes.
-use Rattle.std.proofs.Common.{◌≡◌, ◌≢◌, ℕ, zero, suc, ◌+◌, ◌-◌, ◌<◌, ◌≤◌, ◌==◌, Bool, true, false, cond, List, [], ◌∷◌, ◌++◌, Option, Some, None, is_some, refl, sym, ap, subst, ◌∙◌, arith, append_assoc, append-nil, ◌⊎◌, inl, inr}
+use Rattle.std.proofs.Common.{◌≡◌, ◌≢◌, ℕ, suc, ◌+◌, ◌<◌, List, [], ◌∷◌, ◌++◌, Option, Some, None, refl, sym, ap, ◌∙◌, arith, append_assoc, inl, inr}
 use Rattle.std.specs.Prelude.{flat_map}
-use Rattle.std.proofs.lemmas.Bool.{cases_eq, cases_lt, eq-eqb, ne_eqb}
+use Rattle.std.proofs.lemmas.Bool.{cases_eq, eq-eqb}
 use Rattle.std.proofs.lemmas.List.Concat.{flat_map-append}
-use Rattle.tx_tree.proofs.Numbers.{times-head, times-tail, times-append, times-other}
-use Rattle.tx_tree.proofs.RowLists.{count_of-append, Splits, before_of-split, after_of-split, split-none, split-once}
-use Rattle.tx_tree.proofs.Linked.{rows_at-node, rows_of-is, Live, node_of_place, children_live, children_once, not_root, Agree, Agree-left, Agree-right}
-use Rattle.tx_tree.proofs.Context.{Context, same-children, parent_live}
-use Rattle.tx_tree.proofs.Lookups.{none_of, not_nowhere, at_most_once, Below, below}
+use Rattle.tx_tree.proofs.Numbers.{times-append, times-other}
+use Rattle.tx_tree.proofs.lemmas.NumbersAndIds.{count_of-append}
+use Rattle.tx_tree.proofs.RowLists.{before_of-split, after_of-split, split-once}
+use Rattle.tx_tree.proofs.Linked.{rows_at-node, Live, children_live, Agree}
+use Rattle.tx_tree.proofs.Context.{same-children, parent_live}
+use Rattle.tx_tree.proofs.Lookups.{not_nowhere, at_most_once, Below}
 use Rattle.tx_tree.proofs.Mounting.{Agree-apart, node-same}
 use Rattle.tx_tree.specs.Row.{plain}
-use Rattle.tx_tree.specs.Rows.{before_of, after_of, removed, count_of}
-use Rattle.tx_tree.specs.Kind.{holds_children, is_screen}
-use Rattle.tx_tree.specs.Links.{Slots, rows_at, rows_of, times, children_in, place_in, parent_in, depth_in, IsNode, IsLinked}
+use Rattle.tx_tree.specs.Rows.{after_of, removed, count_of}
+use Rattle.tx_tree.specs.Links.{Slots, rows_at, rows_of, times, children_in, place_in, parent_in, IsNode, IsLinked}
 use Rattle.tx_tree.specs.declared.row.Row.{Row}
 use Rattle.tx_tree.specs.declared.tree.node.Node.{Node}
 

@@ -1,18 +1,17 @@
 -- When an edit is refused, by the slots.
-use Rattle.std.proofs.Common.{◌≡◌, ◌≢◌, ℕ, zero, suc, ◌+◌, ◌<◌, ◌==◌, ◌||◌, Bool, true, false, not, cond, List, [], ◌∷◌, Option, Some, None, is_some, refl, sym, ap, ◌∙◌, arith, nat_eq, ◌⊎◌, inl, inr}
+use Rattle.std.proofs.Common.{◌≡◌, ◌≢◌, ℕ, ◌<◌, ◌==◌, true, false, cond, List, [], ◌∷◌, Option, Some, None, refl, sym, ap, ◌∙◌, arith, nat_eq, inl, inr}
 use Rattle.std.specs.Prelude.{option_map, unwrap_or, is_none}
 use Rattle.std.specs.Option.{option_eq}
 use Rattle.std.proofs.lemmas.Bool.{cases_eq, eq-eqb, ne_eqb}
-use Rattle.tx_tree.proofs.Linked.{node_of_place, not_root}
+use Rattle.tx_tree.proofs.Linked.{node_of_place}
 use Rattle.tx_tree.proofs.Context.{parent_live}
-use Rattle.tx_tree.proofs.Lookups.{row_in, row_at-slot, parent_id, parent_of-slot, first_of, not_nowhere}
-use Rattle.tx_tree.specs.Row.{number, has_number}
+use Rattle.tx_tree.proofs.Lookups.{row_at-slot, parent_id, parent_of-slot, first_of, not_nowhere}
+use Rattle.tx_tree.specs.Row.{number}
 use Rattle.tx_tree.specs.Rows.{row_at, parent_of, first_row}
 use Rattle.tx_tree.specs.Edits.{is_first, edit_refusal, remove_refusal, have_one_parent, move_refusal}
-use Rattle.tx_tree.specs.Links.{Slots, rows_of, times, children_in, place_in, parent_in, depth_in, IsLinked}
+use Rattle.tx_tree.specs.Links.{Slots, rows_of, times, children_in, parent_in, IsLinked}
 use Rattle.tx_tree.specs.declared.row.Row.{Row}
 use Rattle.tx_tree.specs.declared.row.NodeId.{NodeId}
-use Rattle.tx_tree.specs.declared.fault.TreeFault.{TreeFault}
 use Rattle.tx_tree.specs.declared.fault.TreeFault.TheVariants.{NoNode, Root, NotSiblings}
 use Rattle.tx_tree.specs.declared.tree.node.Node.{Node}
 

@@ -1,15 +1,16 @@
 -- The tree of a Screen alone.
-use Rattle.std.proofs.Common.{◌≡◌, ◌≢◌, ℕ, zero, suc, ◌+◌, ◌<◌, Bool, true, false, cond, List, [], ◌∷◌, ◌++◌, Option, Some, None, refl, sym, ap, ◌∙◌, arith, lit≤, set, ◌⊎◌, inl, inr}
+use Rattle.std.proofs.Common.{◌≡◌, ℕ, zero, suc, true, cond, List, [], ◌∷◌, ◌++◌, Option, Some, None, refl, sym, ap, ◌∙◌, arith, lit≤, set, inl, inr}
 use Rattle.std.specs.Prelude.{unwrap_or}
 use Rattle.std.proofs.lemmas.Bool.{cases_Bool, cond-true, cond-false}
 use Rattle.tx_tree.proofs.Linked.{rows_at-node, rows_of-is}
-use Rattle.tx_tree.proofs.Ids.{id_from_test, test_from_id}
+use Rattle.tx_tree.proofs.lemmas.NumbersAndIds.{id_from_test}
+use Rattle.tx_tree.proofs.Ids.{test_from_id}
 use Rattle.tx_tree.proofs.MountedNodes.{leaf_node}
 use Rattle.tx_tree.proofs.Mounting.{node-same}
 use Rattle.tx_tree.specs.Kind.{is_screen}
 use Rattle.tx_tree.specs.Row.{plain, placed}
 use Rattle.tx_tree.specs.Rows.{has_id}
-use Rattle.tx_tree.specs.Links.{slots, rows_at, rows_of, id_in, children_in, behind_in, IsNode, IsLinked, KeepsNext, KeepsIds, IsKept}
+use Rattle.tx_tree.specs.Links.{slots, rows_of, id_in, children_in, behind_in, IsNode, KeepsNext, IsKept}
 use Rattle.tx_tree.specs.declared.row.Row.{Row}
 use Rattle.tx_tree.specs.declared.row.NewRow.{NewRow}
 use Rattle.tx_tree.specs.declared.tree.node.Node.{Node}

@@ -1,6 +1,6 @@
 -- Ids by the map and by the rows.
-use Rattle.std.proofs.Common.{◌≡◌, ◌≢◌, ℕ, zero, suc, ◌<◌, Bool, true, false, ◌||◌, List, [], ◌∷◌, ◌++◌, Option, Some, None, refl, sym, ap, ◌∙◌, is_some, ◌⊎◌, inl, inr}
-use Rattle.std.specs.Prelude.{flat_map, unwrap_or}
+use Rattle.std.proofs.Common.{◌≡◌, ℕ, zero, suc, ◌<◌, Bool, true, List, [], ◌∷◌, ◌++◌, Option, Some, None, refl, sym, ap, ◌∙◌, is_some, ◌⊎◌, inl, inr}
+use Rattle.std.specs.Prelude.{flat_map}
 use Rattle.std.specs.List.{list_any}
 use Rattle.std.specs.Option.{option_eq}
 use Rattle.std.specs.Str.{bytes_eq}
@@ -8,18 +8,13 @@ use Rattle.std.proofs.lemmas.Bool.{cases_Bool, or_cases, or_left, or_right, fals
 use Rattle.std.proofs.lemmas.Slice.Eq.{bytes_eq-Decides}
 use Rattle.tx_tree.proofs.Numbers.{times-head, times-tail}
 use Rattle.tx_tree.proofs.Linked.{rows_at-node, rows_at-zero, rows_of-is, node_of_place, children_live}
-use Rattle.tx_tree.proofs.RowLists.{Splits}
+use Rattle.tx_tree.proofs.lemmas.NumbersAndIds.{id_from_test}
 use Rattle.tx_tree.proofs.Context.{cut_at}
 use Rattle.tx_tree.specs.Row.{plain}
 use Rattle.tx_tree.specs.Rows.{has_id}
 use Rattle.tx_tree.specs.Links.{Slots, rows_at, rows_of, times, id_in, IsLinked, KeepsIds}
 use Rattle.tx_tree.specs.declared.row.Row.{Row}
 use Rattle.tx_tree.specs.declared.tree.node.Node.{Node}
-
--- what the test of an id says
-pub id_from_test : (id : Option (List ℕ)) (name : List ℕ) → option_eq bytes_eq id (Some name) ≡ true → id ≡ Some name
-id_from_test None name h = absurd (false≢true h)
-id_from_test (Some held) name h = ap (λ (z : List ℕ). Some z) ((bytes_eq-Decides held name).0 h)
 
 pub test_from_id : (id : Option (List ℕ)) (name : List ℕ) → id ≡ Some name → option_eq bytes_eq id (Some name) ≡ true
 test_from_id id name h = ap (λ (o : Option (List ℕ)). option_eq bytes_eq o (Some name)) h ∙ (bytes_eq-Decides name name).1 refl

@@ -1,12 +1,12 @@
 -- The kept next siblings, after a change of one list of children.
-use Rattle.std.proofs.Common.{◌≡◌, ◌≢◌, ℕ, zero, suc, ◌+◌, ◌<◌, ◌≤◌, List, [], ◌∷◌, ◌++◌, Option, Some, None, refl, sym, ap, ◌∙◌, arith, length, ◌⊎◌, inl, inr}
+use Rattle.std.proofs.Common.{◌≡◌, ◌≢◌, ℕ, ◌<◌, List, Option, Some, sym, ap, ◌∙◌, arith, length, inl, inr}
 use Rattle.std.specs.Prelude.{slice_index}
 use Rattle.std.proofs.lemmas.Bool.{cases_eq, cases_lt}
 use Rattle.tx_tree.proofs.Linked.{node_of_place, children_live, children_once}
 use Rattle.tx_tree.proofs.Lookups.{not_nowhere}
 use Rattle.tx_tree.proofs.MountedNodes.{in_bounds}
 use Rattle.tx_tree.proofs.Follows.{Follows, Once}
-use Rattle.tx_tree.specs.Links.{Slots, slots, times, children_in, place_in, parent_in, behind_in, IsLinked, KeepsNext, KeepsIds, IsKept}
+use Rattle.tx_tree.specs.Links.{Slots, slots, times, children_in, place_in, parent_in, behind_in, IsLinked, KeepsNext, IsKept}
 use Rattle.tx_tree.specs.declared.tree.node.Node.{Node}
 
 pub keeps-next : (at to : Slots) (linked : IsLinked at) (behind behind2 : List ℕ) (p : ℕ) (above : Node) (children : List ℕ) → at p ≡ Some above

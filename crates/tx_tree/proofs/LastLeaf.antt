@@ -1,6 +1,6 @@
 -- The last node of a subtree, and the subtree without it.
-use Rattle.std.proofs.Common.{◌≡◌, ◌≢◌, ℕ, zero, suc, ◌+◌, ◌-◌, ◌<◌, ◌≤◌, Bool, true, false, List, [], ◌∷◌, ◌++◌, Option, Some, None, is_some, refl, sym, ap, subst, ◌∙◌, arith, length, append_assoc, append-nil, ◌⊎◌, inl, inr, length-append}
-use Rattle.std.specs.Prelude.{flat_map, unwrap_or}
+use Rattle.std.proofs.Common.{◌≡◌, ◌≢◌, ℕ, suc, ◌<◌, true, List, [], ◌∷◌, ◌++◌, Some, is_some, refl, sym, ap, subst, ◌∙◌, arith, length, append_assoc, ◌⊎◌, inl, inr, length-append}
+use Rattle.std.specs.Prelude.{flat_map}
 use Rattle.std.proofs.lemmas.List.{append_cancel_right, same_from_push}
 use Rattle.tx_tree.proofs.NextSiblings.{empty_or_last}
 use Rattle.tx_tree.proofs.RowLists.{AllDeeper, Splits, before_of-split, after_of-split, subtree_of-split}
@@ -9,8 +9,8 @@ use Rattle.tx_tree.proofs.Context.{cut_at}
 use Rattle.tx_tree.proofs.Lookups.{AllDeeper-left, not_nowhere, after_of-last}
 use Rattle.tx_tree.proofs.DroppedNodes.{live_node}
 use Rattle.tx_tree.specs.Row.{plain}
-use Rattle.tx_tree.specs.Rows.{before_of, after_of, subtree_of, removed}
-use Rattle.tx_tree.specs.Links.{Slots, rows_at, rows_of, children_in, depth_in, last_or_zero, IsLinked}
+use Rattle.tx_tree.specs.Rows.{after_of, subtree_of, removed}
+use Rattle.tx_tree.specs.Links.{Slots, rows_at, rows_of, children_in, last_or_zero, IsLinked}
 use Rattle.tx_tree.specs.declared.row.Row.{Row}
 use Rattle.tx_tree.specs.declared.tree.node.Node.{Node}
 

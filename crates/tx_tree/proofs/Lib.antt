@@ -1,4 +1,4 @@
-pub mod NameBytes
+pub mod lemmas
 pub mod Counting
 pub mod RowLists
 pub mod Numbers
@@ -24,3 +24,4 @@ pub mod EditRefusals
 pub mod WholeTree
 pub mod ChangedRow
 pub mod Listings
+pub mod Walks

@@ -1,13 +1,12 @@
 -- Nodes that are linked, and the rows that they stand for.
-use Rattle.std.proofs.Common.{◌≡◌, ◌≢◌, ℕ, zero, suc, ◌+◌, ◌<◌, ◌≤◌, Bool, true, false, cond, nat_lt, List, [], ◌∷◌, ◌++◌, Option, Some, None, refl, sym, ap, subst, ◌∙◌, arith, append_assoc, ◌⊎◌, inl, inr}
+use Rattle.std.proofs.Common.{◌≡◌, ◌≢◌, ℕ, zero, suc, ◌+◌, ◌<◌, ◌≤◌, List, [], ◌∷◌, ◌++◌, Option, Some, None, refl, sym, ap, ◌∙◌, arith, inl, inr}
 use Rattle.std.specs.Prelude.{flat_map, unwrap_or}
-use Rattle.std.proofs.lemmas.Bool.{cases_eq, cases_lt, eq-eqb, ne_eqb, le-ltb}
-use Rattle.std.proofs.lemmas.List.Concat.{flat_map-append}
-use Rattle.tx_tree.proofs.Numbers.{times-head, times-tail, times-append, Cut, cut}
-use Rattle.tx_tree.proofs.RowLists.{count_of-append, AllDeeper, AllDeeper-append, AllDeeper-less, Splits}
-use Rattle.tx_tree.specs.Row.{plain, has_number}
-use Rattle.tx_tree.specs.Rows.{count_of, deeper}
-use Rattle.tx_tree.specs.Links.{Slots, rows_from, rows_at, rows_of, times, children_in, place_in, parent_in, depth_in, IsNode, IsLinked}
+use Rattle.std.proofs.lemmas.Bool.{cases_eq, cases_lt, eq-eqb, ne_eqb}
+use Rattle.tx_tree.proofs.Numbers.{times-head, times-tail}
+use Rattle.tx_tree.proofs.lemmas.NumbersAndIds.{count_of-append}
+use Rattle.tx_tree.specs.Row.{plain}
+use Rattle.tx_tree.specs.Rows.{count_of}
+use Rattle.tx_tree.specs.Links.{Slots, rows_from, rows_at, rows_of, times, children_in, place_in, parent_in, depth_in, IsLinked}
 use Rattle.tx_tree.specs.declared.row.Row.{Row}
 use Rattle.tx_tree.specs.declared.tree.node.Node.{Node}
 

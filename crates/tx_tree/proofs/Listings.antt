@@ -1,20 +1,16 @@
--- The children of a row, all rows, and a test of all rows.
-use Rattle.std.proofs.Common.{◌≡◌, ◌≢◌, ℕ, zero, suc, ◌+◌, ◌<◌, ◌≤◌, ◌==◌, Bool, true, false, not, ◌&&◌, ◌||◌, cond, List, [], ◌∷◌, ◌++◌, map, filter, Option, Some, None, refl, sym, ap, subst, ◌∙◌, arith, length, append_assoc, append-nil, ◌⊎◌, inl, inr}
-use Rattle.std.specs.Prelude.{flat_map, option_map, unwrap_or, is_some}
-use Rattle.std.proofs.lemmas.List.{map-append}
+-- The children of a row, and a test of all rows.
+use Rattle.std.proofs.Common.{◌≡◌, ℕ, zero, suc, ◌+◌, ◌<◌, ◌==◌, Bool, true, false, not, ◌&&◌, ◌||◌, cond, List, [], ◌∷◌, ◌++◌, map, filter, Option, Some, None, refl, sym, ap, subst, ◌∙◌, arith, inl, inr}
+use Rattle.std.specs.Prelude.{flat_map}
 use Rattle.std.specs.List.{list_all, list_any}
-use Rattle.std.proofs.lemmas.Bool.{cases_Bool, cases_lt, eq-eqb, ne_eqb, or_cases, or_left, or_right, false≢true, not-true, not-false}
-use Rattle.tx_tree.proofs.Counting.{none-head, none-tail}
+use Rattle.std.proofs.lemmas.Bool.{cases_Bool, eq-eqb, ne_eqb, or_cases, or_left, or_right, false≢true}
 use Rattle.tx_tree.proofs.Numbers.{times-head, times-tail}
-use Rattle.tx_tree.proofs.RowLists.{AllDeeper, deeper-append, Splits, from_of-split, from_of-skip, count_of-append}
+use Rattle.tx_tree.proofs.RowLists.{AllDeeper, deeper-append, from_of-split}
 use Rattle.tx_tree.proofs.Linked.{rows_at-node, children_live}
 use Rattle.tx_tree.proofs.Context.{cut_at, deep-children}
 use Rattle.tx_tree.proofs.Lookups.{below_more}
-use Rattle.tx_tree.proofs.MountedNodes.{in_bounds}
 use Rattle.tx_tree.proofs.Ids.{any-row, row-any}
-use Rattle.tx_tree.specs.Row.{plain, has_number}
-use Rattle.tx_tree.specs.Rows.{row_at, from_of, first_row, second_row, next_of, deeper, children_of, first_children, count_of}
-use Rattle.tx_tree.specs.Walk.{rest_from}
+use Rattle.tx_tree.specs.Row.{plain}
+use Rattle.tx_tree.specs.Rows.{children_of, first_children}
 use Rattle.tx_tree.specs.Spelled.{is_spelled}
 use Rattle.tx_tree.specs.Links.{Slots, slots, rows_at, rows_of, times, node_id, slot_is_spelled, IsLinked}
 use Rattle.tx_tree.specs.declared.row.Row.{Row}
@@ -113,93 +109,3 @@ all_spelled-rows nodes linked =
           | inr nothing ↦ none ∙ sym nothing
         ]
       ]
-
--- the row with a number is the first of those from it on
-pub row_at-from : (n : ℕ) (rows : List Row) → row_at n rows ≡ first_row (from_of n rows)
-row_at-from n [] = refl
-row_at-from n (row ∷ rows) = elim (cases_Bool (has_number n row)) [
-  | inl same-it ↦ rw same-it refl
-  | inr other-it ↦ rw other-it (row_at-from n rows)
-]
-
--- rows from a number on begin somewhere in the rows
-from_of-part : (n : ℕ) (rows : List Row) → (front : List Row) × (rows ≡ front ++ from_of n rows)
-from_of-part n [] = ([], refl)
-from_of-part n (row ∷ rows) = elim (cases_Bool (has_number n row)) [
-  | inl same-it ↦ ([], rw same-it refl)
-  | inr other-it ↦ let (front, e) = from_of-part n rows in (row ∷ front, rw other-it (ap (λ (z : List Row). row ∷ z) e))
-]
-
--- the rows from the next row on are those behind this one
-pub rest_from-next : (n : ℕ) (rows : List Row) → ((k : ℕ) → count_of k rows ≤ 1) → (row : Row) (tail : List Row) → from_of n rows ≡ row ∷ tail
-    → rest_from (option_map (λ r. r.node) (next_of n rows)) rows ≡ tail
-rest_from-next n rows once row [] e = ap (λ (z : List Row). rest_from (option_map (λ r. r.node) (second_row z)) rows) e
-rest_from-next n rows once row (next ∷ tail) e =
-    let (front, part) = from_of-part n rows in
-    let whole : rows ≡ (front ++ (row ∷ [])) ++ (next ∷ tail) = part ∙ (ap (λ (z : List Row). front ++ z) e ∙ sym (append_assoc front (row ∷ []) (next ∷ tail))) in
-    let k : ℕ = next.node.0 in
-    let most = once k in
-    let all = ap (count_of k) whole in
-    let sum = count_of-append k (front ++ (row ∷ [])) (next ∷ tail) in
-    let test : has_number k next ≡ true = eq-eqb next.node.0 k refl in
-    let own : count_of k (next ∷ tail) ≡ 1 + count_of k tail = rw test refl in
-    let none : count_of k (front ++ (row ∷ [])) ≡ 0 = omega (arith, most, all, sum, own) in
-    ap (λ (z : List Row). rest_from (option_map (λ r. r.node) (second_row z)) rows) e
-    ∙ (ap (from_of k) whole ∙ (from_of-skip k (front ++ (row ∷ [])) (next ∷ tail) none ∙ rw test refl))
-
--- how many rows are left from a row on, and whether there is one
-abbrev pub left_from : Option NodeId → List Row → ℕ
-left_from here rows = length (rest_from here rows) + cond (is_some here) 1 0
-
-pub found_first : (r : Row) (xs : List Row) → Some r ≡ first_row xs → (tail : List Row) × (xs ≡ r ∷ tail)
-found_first r [] h = cc
-found_first r (x ∷ xs) h = (xs, ap (λ (o : Option Row). unwrap_or o r ∷ xs) (sym h))
-
-none_first : (xs : List Row) → first_row xs ≡ None → xs ≡ []
-none_first [] h = refl
-none_first (x ∷ xs) h = cc
-
--- a row is copied, and the next one is gone to
-pub copied-row : (rows : List Row) → ((k : ℕ) → count_of k rows ≤ 1) → (copies copies2 : List Row) (n : NodeId) (here next : Option NodeId) (row copy : Row)
-    → here ≡ Some n → next ≡ option_map (λ r. r.node) (next_of n.0 rows) → Some row ≡ row_at n.0 rows → plain copy ≡ row → copies2 ≡ copies ++ copy ∷ []
-    → map plain copies ++ rest_from here rows ≡ rows
-    → (map plain copies2 ++ rest_from next rows ≡ rows) × (left_from next rows < left_from here rows)
-copied-row rows once copies copies2 n here next row copy eh en er ec e2 done =
-    let (tail, e) = found_first row (from_of n.0 rows) (er ∙ row_at-from n.0 rows) in
-    let rest : rest_from next rows ≡ tail = ap (λ (o : Option NodeId). rest_from o rows) en ∙ rest_from-next n.0 rows once row tail e in
-    let was : rest_from here rows ≡ row ∷ tail = ap (λ (o : Option NodeId). rest_from o rows) eh ∙ e in (
-      ap (λ (z : List Row). map plain z ++ rest_from next rows) e2
-          ∙ (ap (λ (z : List Row). z ++ rest_from next rows) (map-append plain copies (copy ∷ []))
-          ∙ (append_assoc (map plain copies) (plain copy ∷ []) (rest_from next rows)
-          ∙ (ap (λ (z : Row). map plain copies ++ (z ∷ rest_from next rows)) ec
-          ∙ (ap (λ (z : List Row). map plain copies ++ (row ∷ z)) rest
-          ∙ (ap (λ (z : List Row). map plain copies ++ z) (sym was) ∙ done))))),
-      (let a = ap length rest in
-          let b = ap length was in
-          let f : cond {A = ℕ} (is_some here) 1 0 ≡ 1 = ap (λ (o : Option NodeId). cond {A = ℕ} (is_some o) 1 0) eh in
-          let g : cond {A = ℕ} (is_some next) 1 0 ≤ 1 = at_most next in
-          let s : length (row ∷ tail) ≡ suc (length tail) = refl in
-          omega (arith, a, b, f, g, s)),
-    )
-  where
-    at_most : (o : Option NodeId) → cond {A = ℕ} (is_some o) 1 0 ≤ 1
-    at_most None = omega arith
-    at_most (Some x) = omega arith
-
--- and where there is no row, none is left
-pub no-row : (rows : List Row) (copies : List Row) (n : NodeId) (here next : Option NodeId)
-    → here ≡ Some n → next ≡ option_map (λ r. r.node) (next_of n.0 rows) → None ≡ row_at n.0 rows
-    → map plain copies ++ rest_from here rows ≡ rows
-    → (map plain copies ++ rest_from next rows ≡ rows) × (left_from next rows < left_from here rows)
-no-row rows copies n here next eh en er done =
-    let empty : from_of n.0 rows ≡ [] = none_first (from_of n.0 rows) (sym (row_at-from n.0 rows) ∙ sym er) in
-    let was : rest_from here rows ≡ [] = ap (λ (o : Option NodeId). rest_from o rows) eh ∙ empty in
-    let gone : next ≡ None = en ∙ ap (λ (z : List Row). option_map (λ r. r.node) (second_row z)) empty in
-    let rest : rest_from next rows ≡ [] = ap (λ (o : Option NodeId). rest_from o rows) gone in (
-      ap (λ (z : List Row). map plain copies ++ z) (rest ∙ sym was) ∙ done,
-      (let a = ap length rest in
-          let b = ap length was in
-          let f : cond {A = ℕ} (is_some here) 1 0 ≡ 1 = ap (λ (o : Option NodeId). cond {A = ℕ} (is_some o) 1 0) eh in
-          let g : cond {A = ℕ} (is_some next) 1 0 ≡ 0 = ap (λ (o : Option NodeId). cond {A = ℕ} (is_some o) 1 0) gone in
-          omega (arith, a, b, f, g)),
-    )

@@ -1,16 +1,17 @@
 -- What the rows say of a number: its row, its parent, the next row.
-use Rattle.std.proofs.Common.{◌≡◌, ◌≢◌, ℕ, zero, suc, ◌+◌, ◌-◌, ◌<◌, ◌≤◌, ◌==◌, Bool, true, false, cond, nat_lt, List, [], ◌∷◌, ◌++◌, Option, Some, None, refl, sym, ap, subst, ◌∙◌, arith, append_assoc, append-nil, ◌⊎◌, inl, inr}
+use Rattle.std.proofs.Common.{◌≡◌, ◌≢◌, ℕ, zero, suc, ◌+◌, ◌<◌, ◌≤◌, ◌==◌, Bool, true, false, cond, List, [], ◌∷◌, ◌++◌, Option, Some, None, refl, sym, ap, subst, ◌∙◌, arith, append_assoc, append-nil, inl, inr}
 use Rattle.std.specs.Prelude.{flat_map, unwrap_or, option_map, option_and_then, slice_index, slice_get}
-use Rattle.std.proofs.lemmas.Bool.{cases_eq, cases_lt, eq-eqb, ne_eqb, le-ltb, lt-ltb}
+use Rattle.std.proofs.lemmas.Bool.{cases_eq, cases_lt, eq-eqb, ne_eqb}
 use Rattle.std.proofs.lemmas.List.Concat.{flat_map-append}
 use Rattle.tx_tree.proofs.Counting.{none-head, none-tail}
-use Rattle.tx_tree.proofs.Numbers.{times-head, times-tail, times-append, Cut, cut, past_of-cut}
-use Rattle.tx_tree.proofs.RowLists.{count_of-append, AllDeeper, Splits, before_of-split, from_of-split, row_at-split, after_of-split}
-use Rattle.tx_tree.proofs.Linked.{rows_at-node, rows_at-zero, rows_of-is, Live, node_of_place, node_of_child, children_live, children_once, not_root, some_piece, once}
+use Rattle.tx_tree.proofs.Numbers.{times-head, times-tail, times-append, cut, past_of-cut}
+use Rattle.tx_tree.proofs.NextSiblings.{behind_in-at}
+use Rattle.tx_tree.proofs.RowLists.{AllDeeper, Splits, before_of-split, from_of-split, row_at-split, after_of-split}
+use Rattle.tx_tree.proofs.Linked.{rows_at-node, rows_at-zero, rows_of-is, Live, node_of_place, children_live, children_once, not_root, some_piece, once}
 use Rattle.tx_tree.proofs.Context.{Context, context, context-step, deep-children, split_by, cut_at, parent_live, levels_below}
 use Rattle.tx_tree.specs.Row.{plain, has_number}
-use Rattle.tx_tree.specs.Rows.{row_at, before_of, from_of, after_of, first_row, second_row, past_subtree, next_of, last_above, parent_of, count_of, deeper}
-use Rattle.tx_tree.specs.Links.{Slots, rows_at, rows_of, times, children_in, place_in, parent_in, depth_in, first_or_zero, past_of, behind_in, IsNode, IsLinked, KeepsNext}
+use Rattle.tx_tree.specs.Rows.{row_at, before_of, from_of, after_of, first_row, second_row, past_subtree, next_of, last_above, parent_of, count_of}
+use Rattle.tx_tree.specs.Links.{Slots, rows_at, rows_of, times, children_in, place_in, parent_in, past_of, behind_in, IsLinked, KeepsNext}
 use Rattle.tx_tree.specs.declared.row.Row.{Row}
 use Rattle.tx_tree.specs.declared.row.NodeId.{NodeId}
 use Rattle.tx_tree.specs.declared.tree.node.Node.{Node}
@@ -77,13 +78,6 @@ AllDeeper-left depth (row ∷ xs) ys h = (h.0, AllDeeper-left depth xs ys h.1)
 pub below_more : (l depth : ℕ) → suc l + depth ≡ 64 → suc depth < 64 → (m : ℕ) × (l ≡ suc m)
 below_more zero depth sum lt = absurd (omega arith)
 below_more (suc m) depth sum lt = (m, refl)
-
--- the number behind a number in a list that is cut there
-behind_in-cut : (n : ℕ) (left right : List ℕ) → times n left ≡ 0 → behind_in n (left ++ (n ∷ right)) ≡ first_or_zero right
-behind_in-cut n [] right h = rw (eq-eqb n n refl) refl
-behind_in-cut n (k ∷ left) right h =
-    let test : (k == n) ≡ false = none-head _ _ h in
-    rw test (behind_in-cut n left right (none-tail _ _ h))
 
 -- a node and its parent, with the rows around both
 pub record Below (at : Slots) (n : ℕ) (node above : Node) (l : ℕ) (left right : List ℕ) (before after : List Row) : Type 0 where
@@ -190,7 +184,7 @@ module _ {at : Slots} (linked : IsLinked at) where
       (above, b.is, parent_of-below n node above l left right before after b)
 
   -- the rows, cut at the first
-  root_split : (top : Node) → at 1 ≡ Some top → Splits 1 (rows_of at) [] (plain top.row) (flat_map (rows_at 63 at) top.children) []
+  pub root_split : (top : Node) → at 1 ≡ Some top → Splits 1 (rows_of at) [] (plain top.row) (flat_map (rows_at 63 at) top.children) []
   root_split top is = record {
     whole = rw (rows_of-is at, rows_at-node 63 at 1 top is) (ap (λ (z : List Row). plain top.row ∷ z) (sym (append-nil _)));
     here = (linked.nodes 1 top is).numbered;
@@ -242,10 +236,10 @@ module _ {at : Slots} (linked : IsLinked at) where
       → (0 < k → option_map (λ row. row.node) (first_row (after_of n (rows_of at))) ≡ Some (record { 0 = k }))
       × (k ≡ 0 → first_row (after_of n (rows_of at)) ≡ first_row (after_of node.parent (rows_of at)))
   after_of-right n node above l left [] before after b k kept =
-      let none : 0 ≡ k = sym (behind_in-cut n left [] b.none) ∙ (ap (behind_in n) (sym b.whole) ∙ (ap (λ (o : Option Node). behind_in n (children_in o)) (sym b.is) ∙ kept)) in
+      let none : 0 ≡ k = sym (behind_in-at n left [] b.none) ∙ (ap (behind_in n) (sym b.whole) ∙ (ap (λ (o : Option Node). behind_in n (children_in o)) (sym b.is) ∙ kept)) in
       (λ lt. absurd (omega (arith, lt, none)), λ e. ap first_row (after_of-split b.split ∙ sym (after_of-split b.around)))
   after_of-right n node above l left (m ∷ right) before after b k kept =
-      let here : m ≡ k = sym (behind_in-cut n left (m ∷ right) b.none) ∙ (ap (behind_in n) (sym b.whole) ∙ (ap (λ (o : Option Node). behind_in n (children_in o)) (sym b.is) ∙ kept)) in
+      let here : m ≡ k = sym (behind_in-at n left (m ∷ right) b.none) ∙ (ap (behind_in n) (sym b.whole) ∙ (ap (λ (o : Option Node). behind_in n (children_in o)) (sym b.is) ∙ kept)) in
       let among : 0 < times m above.children = rw b.whole (let sum = times-append m left (n ∷ m ∷ right) in let one = times-tail m n (m ∷ right) (times-head m right) in omega (arith, sum, one)) in
       let (child, is, parent, deep) = children_live linked node.parent above b.is m among in (
         λ lt.

@@ -1,18 +1,17 @@
 -- What is kept beside the nodes, after a mount.
-use Rattle.std.proofs.Common.{◌≡◌, ◌≢◌, ℕ, zero, suc, ◌+◌, ◌-◌, ◌<◌, ◌≤◌, ◌==◌, Bool, true, false, cond, List, [], ◌∷◌, ◌++◌, Option, Some, None, refl, sym, ap, subst, ◌∙◌, arith, append_assoc, length, set, get_or, ◌⊎◌, inl, inr}
+use Rattle.std.proofs.Common.{◌≡◌, ◌≢◌, ℕ, ◌<◌, false, cond, List, [], ◌∷◌, ◌++◌, Option, Some, None, sym, ap, ◌∙◌, arith, append_assoc, length, set, inl, inr}
 use Rattle.std.specs.Prelude.{slice_index, unwrap_or}
-use Rattle.std.specs.Option.{option_eq}
-use Rattle.std.specs.Str.{bytes_eq}
-use Rattle.std.proofs.lemmas.Bool.{cases_eq, cases_lt, cases_Bool, eq-eqb, ne_eqb, cond-true, cond-false}
+use Rattle.std.proofs.lemmas.Bool.{cases_eq, cases_Bool, cond-true, cond-false}
 use Rattle.std.proofs.lemmas.List.{get_or-set_same, get_or-set_other, get_or_append_left, get_or_push, length-set}
-use Rattle.tx_tree.proofs.Numbers.{times-head, times-tail, times-append, times-other}
+use Rattle.tx_tree.proofs.Numbers.{times-head, times-append}
 use Rattle.tx_tree.proofs.NextSiblings.{behind_in-at, behind_in-more, empty_or_last}
 use Rattle.tx_tree.proofs.Linked.{node_of_place, children_live, children_once}
 use Rattle.tx_tree.proofs.Lookups.{not_nowhere}
-use Rattle.tx_tree.proofs.Mounting.{Mounts, node-same, same-place, new_number, no_child, not_first}
-use Rattle.tx_tree.proofs.Ids.{id_from_test, test_from_id}
+use Rattle.tx_tree.proofs.Mounting.{Mounts, same-place, no_child}
+use Rattle.tx_tree.proofs.lemmas.NumbersAndIds.{id_from_test}
+use Rattle.tx_tree.proofs.Ids.{test_from_id}
 use Rattle.tx_tree.specs.Rows.{has_id}
-use Rattle.tx_tree.specs.Links.{Slots, times, children_in, place_in, parent_in, first_or_zero, behind_in, last_or_zero, id_in, IsNode, IsLinked, KeepsNext, KeepsIds}
+use Rattle.tx_tree.specs.Links.{Slots, times, children_in, place_in, parent_in, behind_in, last_or_zero, id_in, IsLinked, KeepsNext, KeepsIds}
 use Rattle.tx_tree.specs.declared.tree.node.Node.{Node}
 
 module _ {at to : Slots} {p n : ℕ} {above new : Node} (linked : IsLinked at) (m : Mounts at to p n above new) where

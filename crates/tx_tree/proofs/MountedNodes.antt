@@ -1,26 +1,23 @@
 -- A mount that isn't refused, over the list of nodes.
-use Rattle.std.proofs.Common.{◌≡◌, ◌≢◌, ℕ, zero, suc, ◌+◌, ◌-◌, ◌<◌, ◌≤◌, ◌==◌, ◌||◌, Bool, true, false, not, cond, List, [], ◌∷◌, ◌++◌, Option, Some, None, is_some, refl, sym, ap, subst, ◌∙◌, arith, length, set, get_or, ◌⊎◌, inl, inr}
-use Rattle.std.specs.Prelude.{slice_index, unwrap_or}
-use Rattle.std.specs.List.{list_any}
+use Rattle.std.proofs.Common.{◌≡◌, ◌≢◌, ℕ, ◌+◌, ◌-◌, ◌<◌, ◌≤◌, Bool, true, false, cond, List, [], ◌∷◌, ◌++◌, Option, Some, None, is_some, refl, sym, ap, ◌∙◌, arith, length, set, inl, inr}
 use Rattle.std.specs.Option.{option_map_or}
-use Rattle.std.proofs.lemmas.Bool.{cases_eq, cases_lt, cases_Bool, eqb-false, or_parts, not-false, false≢true}
-use Rattle.std.proofs.lemmas.List.{get_or-set_same, get_or-set_other, get_or_append_left, get_or-append_right, get_or_push, get_or_past, length-set}
+use Rattle.std.proofs.lemmas.Bool.{cases_eq, cases_lt, eqb-false, or_parts, not-false, false≢true}
+use Rattle.std.proofs.lemmas.List.{get_or-set_same, get_or-set_other, get_or_append_left, get_or_push, get_or_past, length-set}
 use Rattle.std.proofs.lemmas.List.{length-append}
 use Rattle.tx_tree.proofs.Numbers.{times-append, times-head}
 use Rattle.tx_tree.proofs.NextSiblings.{empty_or_last}
-use Rattle.tx_tree.proofs.Linked.{node_of_place, children_live}
-use Rattle.tx_tree.proofs.Lookups.{row_in, row_at-slot, not_nowhere}
+use Rattle.tx_tree.proofs.Linked.{children_live}
+use Rattle.tx_tree.proofs.Lookups.{row_in, row_at-slot}
 use Rattle.tx_tree.proofs.Mounting.{Mounts, linked-mount, rows-mount}
 use Rattle.tx_tree.proofs.MountedLists.{next-mount, ids-mount}
 use Rattle.tx_tree.proofs.Ids.{taken-found}
 use Rattle.tx_tree.specs.Kind.{holds_children, is_screen}
 use Rattle.tx_tree.specs.Row.{plain, placed}
-use Rattle.tx_tree.specs.Rows.{row_at, before_of, subtree_of, after_of, has_id}
-use Rattle.tx_tree.specs.Mount.{is_taken, refusal_below, mount_refusal, depth_of, mounted}
-use Rattle.tx_tree.specs.Links.{Slots, slots, rows_of, times, children_in, place_in, depth_in, last_or_zero, with_children, spare_in, IsLinked, KeepsNext, KeepsIds, IsKept, KeepsRoom}
+use Rattle.tx_tree.specs.Rows.{depth_of, before_of, subtree_of, after_of, has_id}
+use Rattle.tx_tree.specs.Mount.{is_taken, refusal_below, mount_refusal, mounted}
+use Rattle.tx_tree.specs.Links.{slots, rows_of, times, children_in, depth_in, last_or_zero, with_children, spare_in, IsLinked, IsKept, KeepsRoom}
 use Rattle.tx_tree.specs.declared.row.Row.{Row}
 use Rattle.tx_tree.specs.declared.row.NewRow.{NewRow}
-use Rattle.tx_tree.specs.declared.fault.TreeFault.{TreeFault}
 use Rattle.tx_tree.specs.declared.tree.node.Node.{Node}
 
 -- a choice that gives nothing takes its second part

@@ -1,17 +1,17 @@
 -- A new node as the last child of another.
-use Rattle.std.proofs.Common.{◌≡◌, ◌≢◌, ℕ, zero, suc, ◌+◌, ◌-◌, ◌<◌, ◌≤◌, ◌==◌, Bool, true, false, cond, List, [], ◌∷◌, ◌++◌, Option, Some, None, refl, sym, ap, subst, ◌∙◌, arith, append_assoc, append-nil, ◌⊎◌, inl, inr}
-use Rattle.std.specs.Prelude.{flat_map, slice_index, unwrap_or}
-use Rattle.std.proofs.lemmas.Bool.{cases_eq, cases_lt, eq-eqb, ne_eqb}
+use Rattle.std.proofs.Common.{◌≡◌, ◌≢◌, ℕ, suc, ◌<◌, true, false, List, [], ◌∷◌, ◌++◌, Option, Some, None, refl, sym, ap, subst, ◌∙◌, arith, append_assoc, append-nil, inl, inr}
+use Rattle.std.specs.Prelude.{flat_map, unwrap_or}
+use Rattle.std.proofs.lemmas.Bool.{cases_eq, cases_lt, eq-eqb}
 use Rattle.std.proofs.lemmas.List.Concat.{flat_map-append}
-use Rattle.tx_tree.proofs.Numbers.{times-head, times-tail, times-append, times-other}
-use Rattle.tx_tree.proofs.RowLists.{count_of-append, Splits, before_of-split, from_of-split, subtree_of-split, after_of-split, split-none, split-once}
-use Rattle.tx_tree.proofs.Linked.{rows_at-node, rows_of-is, Live, node_of_place, children_live, Agree, once}
+use Rattle.tx_tree.proofs.Numbers.{times-head, times-append, times-other}
+use Rattle.tx_tree.proofs.RowLists.{Splits, before_of-split, subtree_of-split, after_of-split, split-none, split-once}
+use Rattle.tx_tree.proofs.Linked.{rows_at-node, Live, node_of_place, children_live, Agree}
 use Rattle.tx_tree.proofs.Context.{Context, same-children, cut_at}
 use Rattle.tx_tree.proofs.Lookups.{none_of, not_nowhere, below_more, at_most_once}
 use Rattle.tx_tree.specs.Row.{plain}
 use Rattle.tx_tree.specs.Rows.{before_of, subtree_of, after_of, count_of}
 use Rattle.tx_tree.specs.Kind.{holds_children, is_screen}
-use Rattle.tx_tree.specs.Links.{Slots, rows_at, rows_of, times, children_in, place_in, parent_in, depth_in, IsNode, IsLinked}
+use Rattle.tx_tree.specs.Links.{Slots, rows_at, rows_of, times, children_in, place_in, IsNode, IsLinked}
 use Rattle.tx_tree.specs.declared.row.Row.{Row}
 use Rattle.tx_tree.specs.declared.tree.node.Node.{Node}
 

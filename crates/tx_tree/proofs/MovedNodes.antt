@@ -1,18 +1,18 @@
 -- A node moves among its siblings, over the list of nodes.
-use Rattle.std.proofs.Common.{◌≡◌, ◌≢◌, ℕ, zero, suc, ◌+◌, ◌-◌, ◌<◌, ◌≤◌, List, [], ◌∷◌, ◌++◌, Option, Some, None, is_some, true, refl, sym, ap, subst, ◌∙◌, arith, length, set, get_or, ◌⊎◌, inl, inr}
+use Rattle.std.proofs.Common.{◌≡◌, ◌≢◌, ℕ, ◌+◌, ◌<◌, List, ◌∷◌, ◌++◌, Option, Some, None, refl, sym, ap, subst, ◌∙◌, arith, length, set, inl, inr}
 use Rattle.std.specs.Prelude.{slice_index}
-use Rattle.std.proofs.lemmas.Bool.{cases_eq, cases_lt, eq-eqb}
+use Rattle.std.proofs.lemmas.Bool.{eq-eqb}
 use Rattle.std.proofs.lemmas.List.{get_or-set_same, get_or-set_other, length-set}
 use Rattle.tx_tree.proofs.Numbers.{ahead_of-cut, past_of-cut, times-append, times-head, times-other, cut}
 use Rattle.tx_tree.proofs.NextSiblings.{empty_or_last}
-use Rattle.tx_tree.proofs.Linked.{node_of_place, node_of_child, children_live, not_root}
-use Rattle.tx_tree.proofs.Lookups.{not_nowhere, Below, below}
+use Rattle.tx_tree.proofs.Linked.{node_of_child, children_live, not_root}
+use Rattle.tx_tree.proofs.Lookups.{Below, below}
 use Rattle.tx_tree.proofs.MountedNodes.{in_bounds}
 use Rattle.tx_tree.proofs.Follows.{follows-drop, stays-drop, follows-put, stays-put, last-stands, Follows, Once}
 use Rattle.tx_tree.proofs.KeptNext.{Sound, keeps-next, follows-of, once-of, bound-of, stands-of}
 use Rattle.tx_tree.proofs.Moving.{Moves, linked-move, rows-move, same-of}
 use Rattle.tx_tree.specs.Rows.{moved}
-use Rattle.tx_tree.specs.Links.{Slots, slots, rows_of, times, children_in, place_in, last_or_zero, ahead_of, past_of, ahead_in, without_child, with_before, with_children, id_in, spare_in, IsLinked, KeepsNext, IsKept}
+use Rattle.tx_tree.specs.Links.{slots, rows_of, times, children_in, place_in, last_or_zero, past_of, ahead_in, without_child, with_before, with_children, id_in, IsLinked, KeepsNext, IsKept}
 use Rattle.tx_tree.specs.declared.row.Row.{Row}
 use Rattle.tx_tree.specs.declared.tree.node.Node.{Node}
 

@@ -1,12 +1,12 @@
 -- A node moves among its siblings.
-use Rattle.std.proofs.Common.{◌≡◌, ◌≢◌, Bool, true, cond, ℕ, zero, suc, ◌+◌, ◌-◌, ◌<◌, ◌≤◌, List, [], ◌∷◌, ◌++◌, Option, Some, None, refl, sym, ap, subst, ◌∙◌, arith, append_assoc, append-nil, ◌⊎◌, inl, inr}
+use Rattle.std.proofs.Common.{◌≡◌, ◌≢◌, Bool, true, cond, ℕ, suc, ◌+◌, ◌<◌, List, [], ◌∷◌, ◌++◌, Option, Some, refl, sym, ap, subst, ◌∙◌, arith, append_assoc, append-nil, inl, inr}
 use Rattle.std.specs.Prelude.{flat_map}
 use Rattle.std.proofs.lemmas.Bool.{cases_eq, eq-eqb}
 use Rattle.std.proofs.lemmas.List.Concat.{flat_map-append}
-use Rattle.tx_tree.proofs.Numbers.{times-append, times-other, times-tail}
-use Rattle.tx_tree.proofs.RowLists.{count_of-append, before_of-skip, from_of-skip, Splits, before_of-split, after_of-split, subtree_of-split, split-once}
+use Rattle.tx_tree.proofs.lemmas.NumbersAndIds.{count_of-append}
+use Rattle.tx_tree.proofs.RowLists.{before_of-skip, from_of-skip, before_of-split, after_of-split, subtree_of-split, split-once}
 use Rattle.tx_tree.proofs.Linked.{rows_at-node, Live, children_live, Agree}
-use Rattle.tx_tree.proofs.Context.{Context, same-children}
+use Rattle.tx_tree.proofs.Context.{same-children}
 use Rattle.tx_tree.proofs.Lookups.{not_nowhere, at_most_once, Below}
 use Rattle.tx_tree.proofs.Mounting.{Agree-apart, node-same}
 use Rattle.tx_tree.specs.Row.{plain, has_number}

@@ -1,9 +1,7 @@
 -- The next sibling of each node, in a list of children.
-use Rattle.std.proofs.Common.{◌≡◌, ◌≢◌, ℕ, zero, suc, ◌+◌, ◌-◌, ◌<◌, ◌≤◌, ◌==◌, Bool, true, false, cond, List, [], ◌∷◌, ◌++◌, refl, sym, ap, ◌∙◌, arith, length, ◌⊎◌, inl, inr}
-use Rattle.std.specs.Prelude.{slice_index}
+use Rattle.std.proofs.Common.{◌≡◌, ◌≢◌, ℕ, suc, ◌-◌, ◌==◌, false, cond, List, [], ◌∷◌, ◌++◌, refl, sym, ap, ◌∙◌, arith, length, ◌⊎◌, inl, inr}
 use Rattle.std.proofs.lemmas.Bool.{cases_eq, eq-eqb, ne_eqb}
 use Rattle.tx_tree.proofs.Counting.{none-head, none-tail}
-use Rattle.tx_tree.proofs.Numbers.{times-other}
 use Rattle.tx_tree.specs.Links.{times, first_or_zero, behind_in, last_or_zero}
 
 -- the number behind the last one is the one that comes behind it

@@ -1,14 +1,11 @@
 -- Lists of rows, cut at the row with a number.
-use Rattle.std.proofs.Common.{◌≡◌, ◌≢◌, ℕ, ◌+◌, ◌<◌, ◌≤◌, Bool, true, false, cond, nat_lt, List, [], ◌∷◌, ◌++◌, Option, Some, None, find, refl, sym, ap, ◌∙◌, arith, append-nil}
+use Rattle.std.proofs.Common.{◌≡◌, ℕ, ◌+◌, ◌<◌, ◌≤◌, Bool, true, false, cond, nat_lt, List, [], ◌∷◌, ◌++◌, Some, refl, ap, ◌∙◌, arith, append-nil}
 use Rattle.std.proofs.lemmas.Bool.{eq-eqb, lt-ltb}
 use Rattle.tx_tree.proofs.Counting.{none-head, none-tail}
+use Rattle.tx_tree.proofs.lemmas.NumbersAndIds.{count_of-append, row_at-skip}
 use Rattle.tx_tree.specs.Row.{has_number}
-use Rattle.tx_tree.specs.Rows.{row_at, before_of, from_of, deeper, past, first_subtree, past_subtree, subtree_of, after_of, count_of}
+use Rattle.tx_tree.specs.Rows.{row_at, before_of, from_of, deeper, past, subtree_of, after_of, count_of}
 use Rattle.tx_tree.specs.declared.row.Row.{Row}
-
-pub count_of-append : (n : ℕ) (xs ys : List Row) → count_of n (xs ++ ys) ≡ count_of n xs + count_of n ys
-count_of-append n [] ys = omega arith
-count_of-append n (row ∷ xs) ys = omega (arith, count_of-append n xs ys)
 
 -- rows without the number are passed over
 pub before_of-skip : (n : ℕ) (xs ys : List Row) → count_of n xs ≡ 0 → before_of n (xs ++ ys) ≡ xs ++ before_of n ys
@@ -22,12 +19,6 @@ from_of-skip n [] ys h = refl
 from_of-skip n (row ∷ xs) ys h =
     let test : has_number n row ≡ false = none-head _ _ h in
     rw test (from_of-skip n xs ys (none-tail _ _ h))
-
-pub row_at-skip : (n : ℕ) (xs ys : List Row) → count_of n xs ≡ 0 → row_at n (xs ++ ys) ≡ row_at n ys
-row_at-skip n [] ys h = refl
-row_at-skip n (row ∷ xs) ys h =
-    let test : has_number n row ≡ false = none-head _ _ h in
-    rw test (row_at-skip n xs ys (none-tail _ _ h))
 
 -- all rows are deeper than a depth
 abbrev pub AllDeeper : ℕ → List Row → Type 0

@@ -1,16 +1,15 @@
 -- The rows that nodes stand for are a tree.
-use Rattle.std.proofs.Common.{◌≡◌, ◌≢◌, ℕ, zero, suc, ◌+◌, ◌-◌, ◌<◌, ◌≤◌, Bool, true, false, List, [], ◌∷◌, ◌++◌, Option, Some, None, refl, sym, ap, subst, ◌∙◌, arith, length, append_assoc, append-nil, ◌⊎◌, inl, inr}
+use Rattle.std.proofs.Common.{◌≡◌, ℕ, zero, suc, ◌-◌, ◌<◌, ◌≤◌, true, List, [], ◌∷◌, ◌++◌, Option, Some, None, refl, sym, ap, subst, ◌∙◌, arith, length, append_assoc, append-nil}
 use Rattle.std.specs.Prelude.{flat_map, unwrap_or, option_and_then}
-use Rattle.std.proofs.lemmas.Bool.{cases_eq}
 use Rattle.tx_tree.proofs.Numbers.{times-head, times-tail}
 use Rattle.tx_tree.proofs.Linked.{rows_at-node, rows_at-zero, rows_of-is, node_of_place, children_live, not_root}
-use Rattle.tx_tree.proofs.Lookups.{row_in, row_at-slot, live, at_most_once, not_nowhere}
+use Rattle.tx_tree.proofs.Lookups.{row_at-slot, live, at_most_once, not_nowhere}
 use Rattle.tx_tree.proofs.MountedNodes.{in_bounds}
-use Rattle.tx_tree.specs.Kind.{holds_children, is_screen}
+use Rattle.tx_tree.specs.Kind.{holds_children}
 use Rattle.tx_tree.specs.Row.{plain}
-use Rattle.tx_tree.specs.Rows.{row_at, count_of}
+use Rattle.tx_tree.specs.Rows.{count_of}
 use Rattle.tx_tree.specs.TreeValue.{TreeValue}
-use Rattle.tx_tree.specs.WellFormed.{MayFollow, MayAllFollow, IsFirst, IsPreorder, id_of, IsTree}
+use Rattle.tx_tree.specs.WellFormed.{MayAllFollow, IsPreorder, id_of, IsTree}
 use Rattle.tx_tree.specs.Links.{Slots, slots, rows_at, rows_of, times, id_in, IsLinked, IsKept}
 use Rattle.tx_tree.specs.declared.row.Row.{Row}
 use Rattle.tx_tree.specs.declared.tree.node.Node.{Node}

@@ -1,5 +1,5 @@
 -- What the edits of a tree do, and when they are refused.
-use Rattle.std.specs.Prelude.{ℕ, ◌==◌, ◌||◌, Bool, true, false, not, if◌then◌else◌, cond, List, [], ◌∷◌, ◌++◌, length, map, Option, Some, None, is_none, option_map, nat_eq}
+use Rattle.std.specs.Prelude.{ℕ, ◌==◌, ◌||◌, Bool, false, not, if◌then◌else◌, List, [], ◌∷◌, length, map, Option, Some, None, is_none, option_map, nat_eq}
 use Rattle.std.specs.Option.{option_eq, option_map_or}
 use Rattle.tx_tree.specs.Row.{number, has_number}
 use Rattle.tx_tree.specs.Rows.{row_at, parent_of}

@@ -1,11 +1,10 @@
-pub mod Name
-pub mod StoredName
 pub mod Kind
 pub mod Classes
 pub mod Row
 pub mod Rows
 pub mod Mount
 pub mod Edits
+pub mod Changes
 pub mod TreeValue
 pub mod WellFormed
 pub mod Walk

@@ -1,5 +1,5 @@
 -- Nodes that are linked by their numbers, and the rows that they stand for.
-use Rattle.std.specs.Prelude.{◌≡◌, ◌≢◌, ℕ, zero, suc, ◌+◌, ◌-◌, ◌<◌, ◌≤◌, ◌==◌, length, Bool, true, false, cond, List, [], ◌∷◌, ◌++◌, Option, Some, None, is_some, option_map, slice_index, slice_index_or, flat_map}
+use Rattle.std.specs.Prelude.{◌≡◌, ◌≢◌, ℕ, zero, suc, ◌<◌, ◌≤◌, length, Bool, true, false, List, [], ◌∷◌, Option, Some, None, is_some, slice_index, slice_index_or, flat_map}
 pub use Rattle.tx_tree.specs.ChildLists.{times, first_or_zero, behind_in, last_or_zero, ahead_of, past_of, without_child, with_before, ahead_in}
 use Rattle.tx_tree.specs.Kind.{holds_children, is_screen}
 use Rattle.tx_tree.specs.Classes.{ClassList}

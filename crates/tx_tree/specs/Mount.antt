@@ -1,10 +1,9 @@
 -- What a mount does, and when it is refused.
-use Rattle.std.specs.Prelude.{ℕ, ◌+◌, ◌==◌, ◌||◌, Bool, false, not, cond, if◌then◌else◌, List, ◌∷◌, ◌++◌, Option, Some, None}
-use Rattle.std.specs.Option.{option_map_or}
+use Rattle.std.specs.Prelude.{ℕ, ◌+◌, ◌==◌, ◌||◌, Bool, false, not, if◌then◌else◌, List, ◌∷◌, ◌++◌, Option, Some, None}
 use Rattle.std.specs.List.{list_any}
 use Rattle.tx_tree.specs.Kind.{holds_children, is_screen}
 use Rattle.tx_tree.specs.Row.{placed}
-use Rattle.tx_tree.specs.Rows.{row_at, before_of, subtree_of, after_of, has_id}
+use Rattle.tx_tree.specs.Rows.{row_at, depth_of, before_of, subtree_of, after_of, has_id}
 use Rattle.tx_tree.specs.declared.row.Row.{Row}
 use Rattle.tx_tree.specs.declared.row.NewRow.{NewRow}
 use Rattle.tx_tree.specs.declared.fault.TreeFault.{TreeFault}
@@ -28,10 +27,6 @@ refusal_below rows made new (Some parent) =
 -- why a row can't be mounted below the row with a number, where so many nodes were made
 abbrev pub mount_refusal : List Row → ℕ → ℕ → NewRow → Option TreeFault
 mount_refusal rows made parent new = refusal_below rows made new (row_at parent rows)
-
--- the depth of the row with a number
-abbrev pub depth_of : ℕ → List Row → ℕ
-depth_of n rows = option_map_or (λ row. row.depth) (row_at n rows) 0
 
 -- the rows with a new one, of the number n, as the last child of the row with a number
 abbrev pub mounted : ℕ → ℕ → NewRow → List Row → List Row

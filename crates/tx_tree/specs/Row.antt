@@ -1,6 +1,7 @@
 -- A row and its place.
-use Rattle.std.specs.Prelude.{ℕ, Bool, ◌==◌}
-use Rattle.tx_tree.specs.Classes.{ClassList}
+use Rattle.std.specs.Prelude.{ℕ, Bool, false, ◌==◌, [], None}
+use Rattle.tx_tree.specs.Kind.{fresh}
+use Rattle.tx_tree.specs.declared.kind.Kind.{Kind}
 use Rattle.tx_tree.specs.declared.row.Row.{Row}
 use Rattle.tx_tree.specs.declared.row.NewRow.{NewRow}
 
@@ -15,6 +16,19 @@ has_number n row = row.node.0 == n
 -- the row itself, of which the room for further classes is no part
 abbrev pub plain : Row → Row
 plain row = record row { classes = record row.classes { spare = 0 } }
+
+-- a new row of a kind with nothing else
+abbrev pub bare : Kind → NewRow
+bare kind = record {
+  kind = kind;
+  id = None;
+  classes = [];
+  disabled = false;
+  text = [];
+  inline = [];
+  binds = [];
+  private = fresh kind 0;
+}
 
 -- a new row with its number and depth
 abbrev pub placed : NewRow → ℕ → ℕ → Row

@@ -1,14 +1,17 @@
 -- Rows in preorder. Parent, subtree and next row are said of the list by depth alone.
-use Rattle.std.specs.Prelude.{ℕ, suc, ◌+◌, ◌≤◌, ◌==◌, ◌||◌, ◌&&◌, Bool, true, false, not, nat_lt, if◌then◌else◌, cond, List, [], ◌∷◌, ◌++◌, Option, Some, None, find, filter, map, option_and_then}
-use Rattle.std.specs.List.{list_any}
-use Rattle.std.specs.Option.{option_eq}
+use Rattle.std.specs.Prelude.{ℕ, zero, suc, ◌+◌, ◌==◌, Bool, nat_lt, cond, List, [], ◌∷◌, ◌++◌, Option, Some, None, find, filter, option_and_then}
+use Rattle.std.specs.Option.{option_eq, option_map_or}
 use Rattle.std.specs.Str.{bytes_eq}
-use Rattle.tx_tree.specs.Row.{number, has_number}
+use Rattle.tx_tree.specs.Row.{has_number}
 use Rattle.tx_tree.specs.declared.row.Row.{Row}
 
 -- the row with a number
 abbrev pub row_at : ℕ → List Row → Option Row
 row_at n rows = find (has_number n) rows
+
+-- its depth
+abbrev pub depth_of : ℕ → List Row → ℕ
+depth_of n rows = option_map_or (λ row. row.depth) (row_at n rows) 0
 
 -- the rows before the row with a number: all of them where there is none
 abbrev pub before_of : ℕ → List Row → List Row
@@ -70,6 +73,24 @@ last_above depth found (row ∷ rows) = last_above depth (cond (row.depth + 1 ==
 -- the parent of the row with a number: the last row before it that is one less deep
 abbrev pub parent_of : ℕ → List Row → Option Row
 parent_of n rows = option_and_then (λ row. last_above row.depth None (before_of n rows)) (row_at n rows)
+
+-- its parent, the parent's parent, and so on: so many of them
+abbrev pub ancestors_within : ℕ → ℕ → List Row → List Row
+ancestors_within zero n rows = []
+ancestors_within (suc count) n rows = option_map_or (λ row. row ∷ ancestors_within count row.node.0 rows) (parent_of n rows) []
+
+-- all of them, up to the Screen: as many as it is deep
+abbrev pub ancestors_of : ℕ → List Row → List Row
+ancestors_of n rows = ancestors_within (depth_of n rows) n rows
+
+-- the first row, where it is so deep
+abbrev pub first_at : ℕ → List Row → Option Row
+first_at depth [] = None
+first_at depth (row ∷ rows) = cond (row.depth == depth) (Some row) None
+
+-- the next sibling of the row with a number: the first row behind its subtree, where it is as deep
+abbrev pub next_sibling_of : ℕ → List Row → Option Row
+next_sibling_of n rows = first_at (depth_of n rows) (after_of n rows)
 
 -- the children of the first row: the rows below it that are one deeper
 abbrev pub first_children : List Row → List Row

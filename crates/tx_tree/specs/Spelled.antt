@@ -4,7 +4,6 @@ use Rattle.std.specs.List.{list_all, list_any}
 use Rattle.std.specs.Char.{is_ascii_uppercase}
 use Rattle.std.specs.Str.{bytes_eq}
 use Rattle.tx_tree.specs.Classes.{has_name}
-use Rattle.tx_tree.specs.declared.bind.Bind.{Bind}
 use Rattle.tx_tree.specs.declared.bind.Key.{Key}
 use Rattle.tx_tree.specs.declared.bind.Key.TheVariants.{Char, Function, Ctrl}
 use Rattle.tx_tree.specs.declared.kind.Kind.{Kind}

@@ -1,6 +1,7 @@
 //! Key bindings.
 
 use crate::Name;
+use tx_text::Items;
 
 /// A key press.
 #[derive(Clone, Copy, Debug, PartialEq, Eq)]
@@ -56,3 +57,6 @@ pub struct Bind {
     /// Whether the binding comes before the focused row's own reaction.
     pub priority: bool,
 }
+
+/// A list of key bindings.
+pub type Binds = Items<Bind>;

@@ -30,7 +30,7 @@ impl Classes {
         ensures { result.names ≡ names }
     {
         Classes {
-            items: names.into_items(),
+            items: names.into_vec(),
         }
     }
 

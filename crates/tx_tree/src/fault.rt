@@ -6,9 +6,6 @@ ghost use Rattle.tx_tree.specs.declared.fault.TreeFault.TheVariants.{NoMemory as
 use std::alloc::AllocError;
 use thiserror::Error;
 
-/// Want of memory.
-pub type NoMemory = AllocError;
-
 /// Why a call on a tree is refused, or a tree file.
 #[derive(Clone, Copy, Debug, PartialEq, Eq, Error)]
 pub enum TreeFault {

@@ -63,8 +63,8 @@ impl Kind {
         }
     }
 
-    // Whether this is the Screen.
-    pub(crate) fn is_screen(self) -> bool
+    /// Whether this is the Screen.
+    pub fn is_screen(self) -> bool
         ensures { result ≡ is_screen self }
     {
         matches!(self, Kind::Screen)

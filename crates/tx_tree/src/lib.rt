@@ -9,21 +9,17 @@ mod classes;
 mod fault;
 mod kind;
 pub mod laws;
-mod lists;
-mod name;
 mod row;
 mod spelled;
 #[cfg(test)]
 mod tests;
-mod text;
 mod tree;
 
-pub use bind::{Action, Bind, Jump, Key};
+pub use bind::{Action, Bind, Binds, Jump, Key};
 pub use classes::Classes;
-pub use fault::{NoMemory, TreeFault, TreeKind};
+pub use fault::{TreeFault, TreeKind};
 pub use kind::{Kind, Private};
-pub use lists::{Binds, Names};
-pub use name::Name;
 pub use row::{NewRow, NodeId, Row};
-pub use text::Text;
-pub use tree::Tree;
+pub use spelled::begins_capital;
+pub use tree::{Ancestors, Tree, Walk};
+pub use tx_text::{Name, Names, NoMemory, Text};

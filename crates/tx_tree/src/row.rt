@@ -3,6 +3,7 @@
 ghost use Rattle.std.specs.Prelude.{◌≡◌, IfOk};
 
 use crate::{Binds, Classes, Kind, Name, Names, NoMemory, Private, Text};
+use std::alloc::Global;
 
 /// The number of a node. Nodes are numbered from 1 in the order in which they are made, and no
 /// number is used twice.
@@ -63,7 +64,26 @@ impl Row {
 }
 
 impl NewRow {
-    ghost use Rattle.tx_tree.specs.Row.{plain, placed};
+    ghost use Rattle.tx_tree.specs.Row.{plain, placed, bare};
+
+    /// A row of a kind with nothing else, and with the state that the kind begins with. It takes no
+    /// memory.
+    pub fn of(alloc: Global, kind: Kind) -> NewRow
+        ensures { result ≡ bare kind }
+    {
+        let mut row = NewRow {
+            kind,
+            id: None,
+            classes: Names::of(Vec::new(alloc)),
+            disabled: false,
+            text: Text::empty(alloc),
+            inline: Text::empty(alloc),
+            binds: Binds::of(Vec::new(alloc)),
+            private: Private::Plain,
+        };
+        row.private = Private::fresh(row.kind, 0);
+        row
+    }
 
     /// A second row that equals this one.
     pub fn copy(&self) -> Result<NewRow, NoMemory>

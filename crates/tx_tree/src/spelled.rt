@@ -45,8 +45,8 @@ fn kind_is_spelled(kind: Kind) -> bool
     }
 }
 
-// Whether the first byte is a capital letter.
-fn begins_capital(bytes: &[u8]) -> bool
+/// Whether the first byte is a capital letter.
+pub fn begins_capital(bytes: &[u8]) -> bool
     ensures { result ≡ begins_capital bytes.now }
 {
     match bytes {

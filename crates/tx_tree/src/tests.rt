@@ -1,51 +1,30 @@
 //! Tests of trees.
 
-ghost use Rattle.std.specs.Prelude.{◌≡◌, IfOk};
-
 use crate::{
-    Action, Bind, Binds, Jump, Key, Kind, Name, Names, NewRow, NodeId, Private, Text, Tree,
-    TreeFault,
+    Action, Ancestors, Bind, Binds, Jump, Key, Kind, Name, Names, NewRow, NodeId, Private, Text,
+    Tree, TreeFault, Walk,
 };
 use std::alloc::{AllocError, Global};
 use std::test::Fail;
-
-fn expect(fine: bool, what: &'static str) -> Result<(), Fail> {
-    if fine { Ok(()) } else { Err(Fail::from(what)) }
-}
-
-// A row of a kind, with nothing else.
-fn bare(alloc: Global, kind: Kind) -> Result<NewRow, AllocError>
-    ensures { IfOk result (λ row. row.kind ≡ kind) }
-{
-    Ok(NewRow {
-        kind,
-        id: None,
-        classes: Names::of(Vec::new(alloc)),
-        disabled: false,
-        text: Text::of(alloc, "")?,
-        inline: Text::of(alloc, "")?,
-        binds: Binds::of(Vec::new(alloc)),
-        private: Private::Plain,
-    })
-}
+use tx_expect::expect;
 
 // A row of a kind with an id.
-fn named(alloc: Global, kind: Kind, id: &str) -> Result<NewRow, AllocError> {
-    let mut row = bare(alloc, kind)?;
+fn named(alloc: Global, kind: Kind, id: &str) -> NewRow {
+    let mut row = NewRow::of(alloc, kind);
     row.id = Name::of(id);
-    Ok(row)
+    row
 }
 
 // The tree of a Screen alone.
 fn screen(alloc: Global) -> Result<Tree, AllocError> {
-    Tree::of_screen(alloc, bare(alloc, Kind::Screen)?)
+    Tree::of_screen(alloc, NewRow::of(alloc, Kind::Screen))
 }
 
 // A Screen with two Statics, `a` and `b`.
 fn two_statics(alloc: Global) -> Result<Tree, Fail> {
     let mut tree = screen(alloc)?;
-    tree.mount(NodeId(1), named(alloc, Kind::Static, "a")?)?;
-    tree.mount(NodeId(1), named(alloc, Kind::Static, "b")?)?;
+    tree.mount(NodeId(1), named(alloc, Kind::Static, "a"))?;
+    tree.mount(NodeId(1), named(alloc, Kind::Static, "b"))?;
     Ok(tree)
 }
 
@@ -65,28 +44,19 @@ fn plain_row(number: u32, depth: u32) -> Seen {
     }
 }
 
-// The rows as `next` goes from the first.
-fn walk(alloc: Global, tree: &Tree) -> Result<Vec<Seen>, AllocError> {
-    let mut rows = Vec::new(alloc);
-    let mut here = Some(tree.root());
-    for _ in 0..1000 {
-        let Some(node) = here else {
-            break;
-        };
-        if let Some(row) = tree.row(node) {
-            rows.push(Seen {
-                number: row.node.0,
-                depth: row.depth,
-                disabled: row.disabled,
-            })?;
-        }
-        here = tree.next(node);
-    }
-    Ok(rows)
+// What a test compares of all rows.
+fn seen_of(alloc: Global, tree: &Tree) -> Result<Vec<Seen>, AllocError> {
+    tree.walk()
+        .map(|row| Seen {
+            number: row.node.0,
+            depth: row.depth,
+            disabled: row.disabled,
+        })
+        .collect(alloc)
 }
 
 fn is_shaped(alloc: Global, tree: &Tree, wanted: &[Seen]) -> Result<bool, AllocError> {
-    Ok(walk(alloc, tree)?.as_slice() == wanted)
+    Ok(seen_of(alloc, tree)?.as_slice() == wanted)
 }
 
 #[test]
@@ -110,6 +80,82 @@ fn two_statics_change_places(rt: HostRuntime) -> Result<(), Fail> {
     expect(second.id == Name::of("b"), "the id of the second row")
 }
 
+// A Screen with the Container 2 and the Static 3. In the Container are the Container 4, in which is
+// the Static 5, and the Static 6.
+fn small_tree(alloc: Global) -> Result<Tree, Fail> {
+    let mut tree = screen(alloc)?;
+    for (parent, kind) in [
+        (1, Kind::Container),
+        (1, Kind::Static),
+        (2, Kind::Container),
+        (4, Kind::Static),
+        (2, Kind::Static),
+    ] {
+        tree.mount(NodeId(parent), NewRow::of(alloc, kind))?;
+    }
+    Ok(tree)
+}
+
+// The numbers of the rows that a walk goes over.
+fn walked(alloc: Global, walk: Walk<'_>) -> Result<Vec<u32>, AllocError> {
+    walk.map(|row| row.node.0).collect(alloc)
+}
+
+fn climbed(alloc: Global, ancestors: Ancestors<'_>) -> Result<Vec<u32>, AllocError> {
+    ancestors.map(|row| row.node.0).collect(alloc)
+}
+
+#[test]
+fn a_small_tree_is_walked(rt: HostRuntime) -> Result<(), Fail> {
+    let alloc = rt.alloc();
+    let tree = small_tree(alloc)?;
+    let all = walked(alloc, tree.walk())?;
+    expect(all.as_slice() == [1, 2, 4, 5, 6, 3].as_slice(), "all rows")?;
+    let below = walked(alloc, tree.subtree(NodeId(2)))?;
+    expect(below.as_slice() == [2, 4, 5, 6].as_slice(), "a subtree")?;
+    let last = walked(alloc, tree.subtree(NodeId(6)))?;
+    expect(last.as_slice() == [6].as_slice(), "that of a last child")?;
+    let none = walked(alloc, tree.subtree(NodeId(9)))?;
+    expect(none.is_empty(), "that of no row")?;
+    let up = climbed(alloc, tree.ancestors(NodeId(5)))?;
+    expect(up.as_slice() == [4, 2, 1].as_slice(), "the ancestors")?;
+    for node in [1, 9] {
+        let none = climbed(alloc, tree.ancestors(NodeId(node)))?;
+        expect(none.is_empty(), "no ancestors")?;
+    }
+    Ok(())
+}
+
+#[test]
+fn a_row_has_neighbours(rt: HostRuntime) -> Result<(), Fail> {
+    let tree = small_tree(rt.alloc())?;
+    for (node, next, sibling, child) in [
+        (1, 2, 0, 2),
+        (2, 4, 3, 4),
+        (3, 0, 0, 0),
+        (4, 5, 6, 5),
+        (5, 6, 0, 0),
+        (6, 3, 0, 0),
+        (9, 0, 0, 0),
+    ] {
+        let node = NodeId(node);
+        expect(number_or_zero(tree.next(node)) == next, "the next row")?;
+        expect(
+            number_or_zero(tree.next_sibling(node)) == sibling,
+            "the next sibling",
+        )?;
+        expect(
+            number_or_zero(tree.first_child(node)) == child,
+            "the first child",
+        )?;
+    }
+    Ok(())
+}
+
+fn number_or_zero(node: Option<NodeId>) -> u32 {
+    node.map_or(0, |node| node.0)
+}
+
 #[test]
 fn a_number_is_used_once(rt: HostRuntime) -> Result<(), Fail> {
     let alloc = rt.alloc();
@@ -122,7 +168,7 @@ fn a_number_is_used_once(rt: HostRuntime) -> Result<(), Fail> {
         tree.remove(NodeId(3)) == Err(TreeFault::NoNode),
         "removed twice",
     )?;
-    let again = tree.mount(NodeId(1), named(alloc, Kind::Static, "b")?)?;
+    let again = tree.mount(NodeId(1), named(alloc, Kind::Static, "b"))?;
     expect(again == NodeId(4), "a new number for an old id")
 }
 
@@ -192,7 +238,7 @@ fn mount_is_refused(
     id: &str,
     fault: TreeFault,
 ) -> Result<bool, Fail> {
-    let row = named(alloc, kind, id)?;
+    let row = named(alloc, kind, id);
     let judged = tree.may_mount(parent, &row) == Err(fault);
     Ok(judged && tree.mount(parent, row) == Err(fault))
 }
@@ -202,9 +248,9 @@ fn mount_is_refused(
 fn chain(alloc: Global) -> Result<Tree, Fail> {
     let mut tree = screen(alloc)?;
     let mut parent = tree.root();
-    tree.mount(parent, named(alloc, Kind::Label, "a")?)?;
+    tree.mount(parent, named(alloc, Kind::Label, "a"))?;
     for _ in 0..63 {
-        parent = tree.mount(parent, bare(alloc, Kind::Container)?)?;
+        parent = tree.mount(parent, NewRow::of(alloc, Kind::Container))?;
     }
     Ok(tree)
 }
@@ -227,7 +273,7 @@ fn the_first_refusal_of_a_mount_comes(rt: HostRuntime) -> Result<(), Fail> {
         expect(refused, "a mount")?;
     }
     expect(tree.made() == 65, "nothing is made")?;
-    let row = named(alloc, Kind::Static, "b")?;
+    let row = named(alloc, Kind::Static, "b");
     expect(
         tree.may_mount(NodeId(64), &row) == Ok(()),
         "the deepest row",
@@ -244,7 +290,7 @@ fn a_tree_makes_65536_nodes(rt: HostRuntime) -> Result<(), Fail> {
     let mut tree = chain(alloc)?;
     let root = tree.root();
     for _ in 65..65_536 {
-        let node = tree.mount(root, bare(alloc, Kind::Static)?)?;
+        let node = tree.mount(root, NewRow::of(alloc, Kind::Static))?;
         tree.remove(node)?;
     }
     expect(tree.made() == 65_536, "all are made")?;
@@ -297,7 +343,7 @@ fn classes_come_and_go(rt: HostRuntime) -> Result<(), Fail> {
     let mut tree = screen(alloc)?;
     let red = Name::of("red").ok_or("a name")?;
     let blue = Name::of("blue").ok_or("a name")?;
-    let mut row = bare(alloc, Kind::Static)?;
+    let mut row = NewRow::of(alloc, Kind::Static);
     row.classes = Names::of(vec![in alloc; red, blue, red]?);
     let node = tree.mount(NodeId(1), row.copy()?)?;
     expect(tree.remove_class(node, &red) == Ok(true), "both go")?;
@@ -408,7 +454,7 @@ struct Beside {
 
 impl Beside {
     fn mount(&mut self, alloc: Global, parent: NodeId) -> Result<(), Fail> {
-        let node = self.tree.mount(parent, bare(alloc, Kind::Container)?)?;
+        let node = self.tree.mount(parent, NewRow::of(alloc, Kind::Container))?;
         self.list = list_mounted(alloc, self.list.as_slice(), parent.0, node.0)?;
         Ok(())
     }
@@ -472,33 +518,7 @@ fn edits_beside_a_plain_list(rt: HostRuntime) -> Result<(), Fail> {
 }
 
 #[test]
-fn names_are_1_to_64_bytes(rt: HostRuntime) -> Result<(), Fail> {
-    let alloc = rt.alloc();
-    let long = "a123456789b123456789c123456789d123456789e123456789f123456789g123";
-    for (text, good) in [
-        ("a", true),
-        ("_", true),
-        ("a-b_9", true),
-        (long, true),
-        ("", false),
-        ("9a", false),
-        ("-a", false),
-        ("a b", false),
-        ("\u{e4}", false),
-    ] {
-        expect(Name::of(text).is_some() == good, "a name")?;
-    }
-    let mut longer = String::from_str(alloc, long)?;
-    longer.push('4')?;
-    expect(Name::of(longer.as_str()).is_none(), "65 bytes")?;
-    let first = Name::of("ab").ok_or("a name")?;
-    let second = Name::of("b").ok_or("a name")?;
-    expect(first.as_str() == "ab", "its text")?;
-    expect(first < second && first != second, "the order of names")
-}
-
-#[test]
-fn lists_and_rows_are_copied(rt: HostRuntime) -> Result<(), Fail> {
+fn rows_are_copied(rt: HostRuntime) -> Result<(), Fail> {
     let alloc = rt.alloc();
     let first = Name::of("ab").ok_or("a name")?;
     let second = Name::of("b").ok_or("a name")?;
@@ -507,13 +527,17 @@ fn lists_and_rows_are_copied(rt: HostRuntime) -> Result<(), Fail> {
         action: Action::Scroll(Jump::End),
         priority: true,
     };
-    let names = Names::of(vec![in alloc; first, second]?).copy()?;
-    expect(names.as_slice() == [first, second].as_slice(), "names")?;
-    let binds = Binds::of(vec![in alloc; bind]?).copy()?;
-    expect(binds.as_slice() == [bind].as_slice(), "bindings")?;
-    let row = named(alloc, Kind::Handed(first), "b")?.copy()?;
-    expect(row.id == Some(second), "an id")?;
-    expect(row.kind == Kind::Handed(first), "a kind")
+    let mut row = named(alloc, Kind::Handed(first), "b");
+    row.classes = Names::of(vec![in alloc; first, second]?);
+    row.binds = Binds::of(vec![in alloc; bind]?);
+    let copy = row.copy()?;
+    expect(copy.id == Some(second), "an id")?;
+    expect(copy.kind == Kind::Handed(first), "a kind")?;
+    expect(
+        copy.classes.as_slice() == [first, second].as_slice(),
+        "the classes",
+    )?;
+    expect(copy.binds.as_slice() == [bind].as_slice(), "the bindings")
 }
 
 // Whether a tree with one such row is spelled.
@@ -548,7 +572,7 @@ fn spelled_keys(rt: HostRuntime) -> Result<(), Fail> {
             action: Action::FocusNext,
             priority: false,
         };
-        let mut row = bare(alloc, Kind::Static)?;
+        let mut row = NewRow::of(alloc, Kind::Static);
         row.binds = Binds::of(vec![in alloc; bind]?);
         expect(spelled_with(alloc, row)? == good, "a key")?;
     }
@@ -565,13 +589,13 @@ fn spelled_texts(rt: HostRuntime) -> Result<(), Fail> {
         ("\u{0}", "", false),
         ("", "a\nb", false),
     ] {
-        let mut row = bare(alloc, Kind::Static)?;
+        let mut row = NewRow::of(alloc, Kind::Static);
         row.text = Text::of(alloc, text)?;
         row.inline = Text::of(alloc, inline)?;
         expect(spelled_with(alloc, row)? == good, "two texts")?;
     }
     let twice = Name::of("a").ok_or("a name")?;
-    let mut row = bare(alloc, Kind::Static)?;
+    let mut row = NewRow::of(alloc, Kind::Static);
     row.classes = Names::of(vec![in alloc; twice, twice]?);
     expect(!spelled_with(alloc, row)?, "a class that stands twice")
 }
@@ -594,7 +618,7 @@ fn spelled_states(rt: HostRuntime) -> Result<(), Fail> {
         (Kind::ProgressBar, bar(1_000_000), true),
         (Kind::ProgressBar, bar(1_000_001), false),
     ] {
-        let mut row = bare(alloc, kind)?;
+        let mut row = NewRow::of(alloc, kind);
         row.private = private;
         expect(spelled_with(alloc, row)? == good, "a state")?;
     }
@@ -635,7 +659,7 @@ fn spelled_kinds(rt: HostRuntime) -> Result<(), Fail> {
         ("Screens", true),
     ] {
         let name = Name::of(kind).ok_or("a name")?;
-        let row = bare(alloc, Kind::Handed(name))?;
+        let row = NewRow::of(alloc, Kind::Handed(name));
         expect(spelled_with(alloc, row)? == good, "a kind")?;
     }
     Ok(())

@@ -33,6 +33,9 @@ mod moves;
 mod node;
 mod remove;
 mod set;
+mod walks;
+
+pub use walks::{Ancestors, Walk};
 
 /// A tree of rows, seen as its rows in preorder and the number of nodes made so far.
 #[derive(Drop)]
@@ -259,12 +262,8 @@ impl Tree {
         ensures { IfOk result (λ rows. map plain rows.items ≡ self.now.rows) }
     {
         let mut copies = Vec::new(*self.nodes.allocator());
-        let mut here = Some(self.root());
-        while let Some(node) = here {
-            if let Some(row) = self.row(node) {
-                copies.push(row.copy()?)?;
-            }
-            here = self.next(node);
+        for row in self.walk() {
+            copies.push(row.copy()?)?;
         }
         Ok(copies)
     }

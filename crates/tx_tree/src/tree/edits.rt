@@ -3,9 +3,11 @@
 ghost use Rattle.std.specs.Prelude.{◌≡◌, ◌<◌, ◌≤◌, ◌^◌, not, length, IfOk, OnOk, OnErr};
 ghost use Rattle.tx_tree.specs.Classes.{without, has_name, with_name};
 ghost use Rattle.tx_tree.specs.Edits.{edit_refusal, changed_at, classes_of, with_text, with_inline, with_disabled, with_state, with_classes};
+ghost use Rattle.tx_tree.specs.Changes.{text_size, changed_by};
 ghost use Rattle.tx_tree.specs.Refusal.{Answers, AnswersAtOnce};
 
 use super::links::node_at;
+use super::set::{Change, change_row};
 use super::{Tree, set};
 use crate::{Name, NodeId, Private, Text, TreeFault};
 
@@ -26,11 +28,7 @@ impl Tree {
         ensures unchanged { OnErr result (SameRows self.old self.new) }
         ensures spares { KeepsSpares self.old self.new }
     {
-        let Some(_) = node_at(&self.nodes, node.0) else {
-            return Err(TreeFault::NoNode);
-        };
-        set::set_text(&mut self.nodes, node.0, text);
-        Ok(())
+        self.change(node, Change::Text(text))
     }
 
     /// Changes the inline text of a row. It takes no memory.
@@ -45,11 +43,7 @@ impl Tree {
         ensures unchanged { OnErr result (SameRows self.old self.new) }
         ensures spares { KeepsSpares self.old self.new }
     {
-        let Some(_) = node_at(&self.nodes, node.0) else {
-            return Err(TreeFault::NoNode);
-        };
-        set::set_inline(&mut self.nodes, node.0, text);
-        Ok(())
+        self.change(node, Change::Inline(text))
     }
 
     /// Disables a row, or enables it. It takes no memory.
@@ -64,11 +58,7 @@ impl Tree {
         ensures unchanged { OnErr result (SameRows self.old self.new) }
         ensures spares { KeepsSpares self.old self.new }
     {
-        let Some(_) = node_at(&self.nodes, node.0) else {
-            return Err(TreeFault::NoNode);
-        };
-        set::set_disabled(&mut self.nodes, node.0, to);
-        Ok(())
+        self.change(node, Change::Disabled(to))
     }
 
     /// Changes the text and the private state of a row. It takes no memory.
@@ -83,10 +73,22 @@ impl Tree {
         ensures unchanged { OnErr result (SameRows self.old self.new) }
         ensures spares { KeepsSpares self.old self.new }
     {
+        self.change(node, Change::State(text, private))
+    }
+
+    // Changes a row. It takes no memory.
+    fn change(&mut self, node: NodeId, change: Change) -> Result<(), TreeFault>
+        requires { text_size change < 2 ^ 32 }
+        ensures refusal { AnswersAtOnce (edit_refusal self.old.rows node.0) result }
+        ensures rows { OnOk result (self.new.rows ≡ changed_at node.0 (changed_by change) self.old.rows) }
+        ensures made { self.new.made ≡ self.old.made }
+        ensures unchanged { OnErr result (SameRows self.old self.new) }
+        ensures spares { KeepsSpares self.old self.new }
+    {
         let Some(_) = node_at(&self.nodes, node.0) else {
             return Err(TreeFault::NoNode);
         };
-        set::set_state(&mut self.nodes, node.0, text, private);
+        change_row(&mut self.nodes, node.0, change);
         Ok(())
     }
 

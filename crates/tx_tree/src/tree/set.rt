@@ -2,25 +2,57 @@
 
 ghost use Rattle.std.specs.Prelude.{◌≡◌, ◌+◌, ◌<◌, ◌≤◌, ◌^◌, not, true, is_some, length, OnOk, OnErr, IfOk, slice_set};
 ghost use Rattle.tx_tree.specs.Classes.{without, has_name, with_name};
-ghost use Rattle.tx_tree.specs.Edits.{private_at, with_text, with_inline, with_disabled, with_state};
+ghost use Rattle.tx_tree.specs.Edits.{private_at};
+ghost use Rattle.tx_tree.specs.Changes.{text_size, changed_by};
 ghost use Rattle.tx_tree.specs.Links.{slots, classes_in, with_row, with_own_classes};
 
 use super::node::Node;
-use crate::{Name, NoMemory, Private, Text};
+use crate::{Name, NoMemory, Private, Row, Text};
 
-/// Changes the text of a node's row.
-pub fn set_text(nodes: &mut Vec<Option<Node>>, n: u32, text: Text)
+/// A change of one row, which moves what it is given.
+#[derive(Drop)]
+pub enum Change {
+    /// Another text: a cursor then stands at its end, and of an OptionList the first line is
+    /// chosen.
+    Text(Text),
+    Inline(Text),
+    Disabled(bool),
+    /// Another text and another private state.
+    State(Text, Private),
+}
+
+/// Changes a node's row.
+pub fn change_row(nodes: &mut Vec<Option<Node>>, n: u32, change: Change)
     requires live { is_some (slots nodes.old.items n) ≡ true }
-    requires short { length text < 2 ^ 32 }
-    ensures { nodes.new.items ≡ slice_set nodes.old.items n (with_row (with_text text) (slots nodes.old.items n)) }
+    requires short { text_size change < 2 ^ 32 }
+    ensures { nodes.new.items ≡ slice_set nodes.old.items n (with_row (changed_by change) (slots nodes.old.items n)) }
 {
     let slot = &mut nodes[n as usize];
     let Some(mut node) = slot.take() else {
         unreachable!()
     };
-    node.row.private = private_at(text.as_str().len() as u32, node.row.private);
-    node.row.text = text;
+    node.row = changed_by(node.row, change);
     *slot = Some(node);
+}
+
+// A row once it is changed.
+fn changed_by(mut row: Row, change: Change) -> Row
+    requires { text_size change < 2 ^ 32 }
+    ensures { result ≡ changed_by change row }
+{
+    match change {
+        Change::Text(text) => {
+            row.private = private_at(text.as_str().len() as u32, row.private);
+            row.text = text;
+        }
+        Change::Inline(text) => row.inline = text,
+        Change::Disabled(to) => row.disabled = to,
+        Change::State(text, private) => {
+            row.text = text;
+            row.private = private;
+        }
+    }
+    row
 }
 
 // The private state once the text is so long.
@@ -32,46 +64,6 @@ fn private_at(size: u32, private: Private) -> Private
         Private::Chosen(_) => Private::Chosen(0),
         other => other,
     }
-}
-
-/// Changes the inline text of a node's row.
-pub fn set_inline(nodes: &mut Vec<Option<Node>>, n: u32, text: Text)
-    requires { is_some (slots nodes.old.items n) ≡ true }
-    ensures { nodes.new.items ≡ slice_set nodes.old.items n (with_row (with_inline text) (slots nodes.old.items n)) }
-{
-    let slot = &mut nodes[n as usize];
-    let Some(mut node) = slot.take() else {
-        unreachable!()
-    };
-    node.row.inline = text;
-    *slot = Some(node);
-}
-
-/// Makes a node's row disabled, or enabled.
-pub fn set_disabled(nodes: &mut Vec<Option<Node>>, n: u32, to: bool)
-    requires { is_some (slots nodes.old.items n) ≡ true }
-    ensures { nodes.new.items ≡ slice_set nodes.old.items n (with_row (with_disabled to) (slots nodes.old.items n)) }
-{
-    let slot = &mut nodes[n as usize];
-    let Some(mut node) = slot.take() else {
-        unreachable!()
-    };
-    node.row.disabled = to;
-    *slot = Some(node);
-}
-
-/// Changes the text and the private state of a node's row.
-pub fn set_state(nodes: &mut Vec<Option<Node>>, n: u32, text: Text, private: Private)
-    requires { is_some (slots nodes.old.items n) ≡ true }
-    ensures { nodes.new.items ≡ slice_set nodes.old.items n (with_row (with_state text private) (slots nodes.old.items n)) }
-{
-    let slot = &mut nodes[n as usize];
-    let Some(mut node) = slot.take() else {
-        unreachable!()
-    };
-    node.row.text = text;
-    node.row.private = private;
-    *slot = Some(node);
 }
 
 /// Adds a class to a node's row where it is absent, and answers whether it was.

@@ -1,5 +1,5 @@
 -- A class is added where it is absent.
-use Rattle.std.proofs.Common.{◌≡◌, ◌≤◌, ◌<◌, ◌-◌, ℕ, List, Option, Some, not, ap, sym, refl, ◌∙◌, is_some, length, arith}
+use Rattle.std.proofs.Common.{◌-◌, ℕ, List, not, ap, sym, refl, ◌∙◌, is_some, length, arith}
 use Rattle.std.proofs.lemmas.List.{length-set}
 use Rattle.tx_tree.specs.Classes.{has_name, with_name}
 use Rattle.tx_tree.specs.Edits.{edit_refusal, changed_at, with_classes, classes_of}

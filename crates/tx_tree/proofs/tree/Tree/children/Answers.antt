@@ -1,5 +1,5 @@
 -- The children by the rows are those of the node.
-use Rattle.std.proofs.Common.{ℕ, List, map, ap, sym, ◌∙◌, is_some}
+use Rattle.std.proofs.Common.{map, ap, sym, ◌∙◌}
 use Rattle.tx_tree.specs.Rows.{children_of}
 use Rattle.tx_tree.specs.Edits.{edit_refusal}
 use Rattle.tx_tree.specs.TreeValue.{TreeValue}

@@ -1,7 +1,7 @@
 -- A mount is refused as its test says, and else gives the rows of the nodes.
-use Rattle.std.proofs.Common.{◌≡◌, ap, sym, refl, ◌∙◌, Option, None}
+use Rattle.std.proofs.Common.{ap, refl, ◌∙◌}
 use Rattle.tx_tree.specs.Mount.{mount_refusal}
-use Rattle.tx_tree.specs.TreeValue.{TreeValue, spare_of}
+use Rattle.tx_tree.specs.TreeValue.{TreeValue}
 use Rattle.tx_tree.proofs.Refusals.{passed_on, not_refused, by_memory, succeeds}
 use Rattle.tx_tree.proofs.Rooms.{keeps_spares}
 use Rattle.tx_tree.proofs.tree.Tree.mount.Goals as goal

@@ -1,9 +1,8 @@
 -- A move is refused by the rows, and else leaves the rows of the nodes.
-use Rattle.std.proofs.Common.{◌≡◌, ◌<◌, ℕ, List, Option, Some, ap, sym, ◌∙◌, arith, length}
+use Rattle.std.proofs.Common.{ℕ, ap, sym, ◌∙◌, arith}
 use Rattle.tx_tree.specs.Edits.{move_refusal}
 use Rattle.tx_tree.specs.TreeValue.{TreeValue}
-use Rattle.tx_tree.specs.Links.{slots, times, children_in, id_in, KeepsIds}
-use Rattle.tx_tree.specs.declared.tree.node.Node.{Node}
+use Rattle.tx_tree.specs.Links.{slots, times, children_in}
 use Rattle.tx_tree.proofs.EditRefusals.{move-missing, move-missing-other, move-same, move-apart, move-there, child-there}
 use Rattle.tx_tree.proofs.Refusals.{refused_at_once, succeeds_at_once}
 use Rattle.tx_tree.proofs.Rooms.{keeps_spares}

@@ -1,5 +1,5 @@
 -- The next row is the first child, or else the first row behind the subtree.
-use Rattle.std.proofs.Common.{ap, sym, ◌∙◌, ℕ, ◌≡◌, List, Option, Some, None, option_map}
+use Rattle.std.proofs.Common.{ap, sym, ◌∙◌, ℕ, List, Option, option_map}
 use Rattle.std.specs.Prelude.{slice_get}
 use Rattle.tx_tree.specs.Rows.{next_of, first_row, after_of}
 use Rattle.tx_tree.specs.TreeValue.{TreeValue}

@@ -1,10 +1,9 @@
 -- The parent by the rows is the one that the node is linked to.
-use Rattle.std.proofs.Common.{ap, sym, refl, ◌∙◌, Some, None, option_map, cond, Bool, ◌≡◌, Option}
+use Rattle.std.proofs.Common.{ap, sym, ◌∙◌, Some, None, option_map, cond, Bool}
 use Rattle.std.proofs.lemmas.Bool.{eq-eqb, ne_eqb}
 use Rattle.tx_tree.specs.Rows.{parent_of}
 use Rattle.tx_tree.specs.TreeValue.{TreeValue}
 use Rattle.tx_tree.specs.Links.{slots}
-use Rattle.tx_tree.specs.declared.row.NodeId.{NodeId}
 use Rattle.tx_tree.proofs.Lookups.{parent_of-slot}
 use Rattle.tx_tree.proofs.tree.Tree.parent.Goals as goal
 

@@ -1,5 +1,5 @@
 -- Every place of a class goes.
-use Rattle.std.proofs.Common.{◌≡◌, ℕ, List, Option, Some, ap, sym, refl, ◌∙◌, is_some}
+use Rattle.std.proofs.Common.{ap, sym, refl, ◌∙◌, is_some}
 use Rattle.tx_tree.specs.Classes.{without, has_name}
 use Rattle.tx_tree.specs.Edits.{edit_refusal, changed_at, with_classes, classes_of}
 use Rattle.tx_tree.specs.TreeValue.{TreeValue}

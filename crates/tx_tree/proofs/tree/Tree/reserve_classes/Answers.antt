@@ -1,12 +1,12 @@
 -- Room for classes changes no row.
-use Rattle.std.proofs.Common.{◌≡◌, ◌≤◌, ℕ, List, Option, Some, ap, sym, refl, ◌∙◌, is_some, length, ◌-◌}
+use Rattle.std.proofs.Common.{ℕ, ap, sym, refl, ◌∙◌, is_some, length, ◌-◌}
 use Rattle.std.proofs.lemmas.List.{length-set}
-use Rattle.tx_tree.specs.Edits.{edit_refusal, changed_at, with_classes}
-use Rattle.tx_tree.specs.TreeValue.{TreeValue, spare_of}
+use Rattle.tx_tree.specs.Edits.{edit_refusal, with_classes}
+use Rattle.tx_tree.specs.TreeValue.{TreeValue}
 use Rattle.tx_tree.specs.Links.{slots, classes_in}
 use Rattle.tx_tree.proofs.EditRefusals.{edit-missing, edit-there}
 use Rattle.tx_tree.proofs.Refusals.{refused, succeeds, by_memory}
-use Rattle.tx_tree.proofs.Rooms.{keeps_spares, spare-slot}
+use Rattle.tx_tree.proofs.Rooms.{keeps_spares}
 use Rattle.tx_tree.proofs.ChangedRow.{classes-done, changed-same, room-classes}
 use Rattle.tx_tree.proofs.tree.Tree.reserve_classes.Goals as goal
 

@@ -1,4 +1,4 @@
-use Rattle.std.proofs.Common.{◌≡◌, ℕ}
+use Rattle.std.proofs.Common.{◌≡◌}
 use Rattle.tx_tree.specs.Rows.{first_row, after_of}
 use Rattle.tx_tree.specs.Links.{slots, rows_of}
 use Rattle.tx_tree.proofs.Lookups.{height_in}

@@ -1,11 +1,8 @@
 -- A mount of one node keeps what is kept.
-use Rattle.std.proofs.Common.{◌≡◌, ◌≤◌, ◌<◌, ◌+◌, ℕ, ap, sym, refl, ◌∙◌, arith, Option, Some, None, is_some, true, List, length, set, ◌∷◌, ◌++◌, []}
-use Rattle.tx_tree.specs.Row.{plain, placed}
-use Rattle.tx_tree.specs.Mount.{mounted}
-use Rattle.tx_tree.specs.Links.{slots, rows_of, children_in, depth_in, last_or_zero}
-use Rattle.tx_tree.specs.declared.row.Row.{Row}
+use Rattle.std.proofs.Common.{◌≡◌, ap, ◌∙◌, arith, Option, is_some, List, length}
+use Rattle.tx_tree.specs.Links.{slots, children_in, depth_in, last_or_zero}
 use Rattle.tx_tree.specs.declared.tree.node.Node.{Node}
-use Rattle.tx_tree.proofs.MountedNodes.{allowed, kept-put, rows-put, room-put, kept-same, last_in_bounds, mount-steps}
+use Rattle.tx_tree.proofs.MountedNodes.{allowed, kept-same, last_in_bounds, mount-steps}
 use Rattle.tx_tree.proofs.tree.mount.mount_node.Goals as goal
 
 pub returns-in_err-make_room-clause-kept : goal.returns-in_err-make_room-clause-kept

@@ -1,9 +1,9 @@
 -- A child of a node moves before another.
-use Rattle.std.proofs.Common.{◌≡◌, ℕ, List, length, arith, ap, sym, ◌∙◌}
+use Rattle.std.proofs.Common.{length, arith, ap, ◌∙◌}
 use Rattle.std.proofs.lemmas.List.{length-set}
 use Rattle.std.specs.Prelude.{slice_index}
 use Rattle.tx_tree.proofs.KeptNext.{Sound}
-use Rattle.tx_tree.proofs.MovedNodes.{Pair, pair_of, other_stands, n_bound, ahead_bound, ahead_other_bound, linked-done, rows-done, next-done}
+use Rattle.tx_tree.proofs.MovedNodes.{pair_of, other_stands, n_bound, ahead_bound, ahead_other_bound, linked-done, rows-done, next-done}
 use Rattle.tx_tree.proofs.tree.moves.move_node.Goals as goal
 
 pub move_child-ahead-requires-clause-other : goal.move_child-ahead-requires-clause-other

@@ -1,5 +1,5 @@
 -- Down along the last children.
-use Rattle.std.proofs.Common.{◌≡◌, arith, ap, sym, ◌∙◌, is_some, suc}
+use Rattle.std.proofs.Common.{◌≡◌, arith, ap, sym, ◌∙◌, is_some}
 use Rattle.tx_tree.specs.Links.{slots, children_in, depth_in}
 use Rattle.tx_tree.proofs.LastLeaf.{bare, last_child}
 use Rattle.tx_tree.proofs.tree.remove.last_leaf.Goals as goal

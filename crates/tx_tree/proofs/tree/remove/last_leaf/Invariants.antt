@@ -1,4 +1,4 @@
-use Rattle.std.proofs.Common.{◌≡◌, ◌≢◌, ◌-◌, ℕ, is_some, true}
+use Rattle.std.proofs.Common.{◌≡◌, ◌≢◌, ◌-◌, is_some, true}
 use Rattle.tx_tree.specs.Rows.{after_of}
 use Rattle.tx_tree.specs.Links.{slots, rows_of, depth_in}
 use Rattle.tx_tree.proofs.tree.remove.last_leaf.Given as goal

@@ -1,4 +1,4 @@
-use Rattle.std.proofs.Common.{◌≡◌, ◌≢◌, ℕ, is_some, true, length, List, []}
+use Rattle.std.proofs.Common.{◌≡◌, ◌≢◌, is_some, true, length, []}
 use Rattle.std.specs.HashMap.{get}
 use Rattle.std.specs.Str.{bytes_eq}
 use Rattle.tx_tree.specs.Rows.{removed, subtree_of, after_of}

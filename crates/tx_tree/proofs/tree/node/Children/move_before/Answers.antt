@@ -1,5 +1,5 @@
 -- A child is taken out and put in again.
-use Rattle.std.proofs.Common.{◌≡◌, ◌<◌, ℕ, List, ap, sym, ◌∙◌, arith}
+use Rattle.std.proofs.Common.{◌≡◌, ap, ◌∙◌, arith}
 use Rattle.tx_tree.specs.ChildLists.{times, without_child}
 use Rattle.tx_tree.proofs.Numbers.{without-step, before-step, ahead-step}
 use Rattle.tx_tree.proofs.tree.node.Children.move_before.Goals as goal
