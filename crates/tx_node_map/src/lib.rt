@@ -1,0 +1,8 @@
+//! A map by node.
+#![tactic(auto)]
+
+mod map;
+#[cfg(test)]
+mod tests;
+
+pub use map::NodeMap;
