@@ -1,25 +1,23 @@
 -- Each value that a declaration gives is one that the table gives its property.
-use Rattle.std.proofs.Common.{◌≡◌, ℕ, Bool, true, false, ◌&&◌, List, [], ◌∷◌, map, Option, Some, None, option_map, Result, Ok, Err, Vec, cond, refl, subst}
+use Rattle.std.proofs.Common.{◌≡◌, ℕ, ◌+◌, Bool, true, false, List, [], ◌∷◌, Option, Some, None, option_map, Result, Ok, Err, Vec, cond, refl, subst}
 use Rattle.std.specs.declared.alloc.Global.{Global}
-use Rattle.std.specs.Prelude.{IfOk}
+use Rattle.std.specs.Prelude.{IfOk, option_and_then}
 use Rattle.tx_lex.specs.Lexemes.{Lexeme}
-use Rattle.tx_value.specs.Names.{among, word_of}
-use Rattle.tx_value.specs.Values.{value_of, edge, bordered}
-use Rattle.tx_value.specs.Declarations as all
-use Rattle.tx_value.specs.Holds.{is_given, may_hold, AllHold, is_within, is_border}
-use Rattle.tx_value.specs.declared.declaration.SideCells.{SideCells}
+use Rattle.tx_value.specs.Answers.{GivesSome}
+use Rattle.tx_value.specs.Names.{is_only}
+use Rattle.tx_value.specs.Values.{joined, value_of}
+use Rattle.tx_value.specs.Declarations.{Pair, properties, share, pairs_from, all_initial, pairs_of}
+use Rattle.tx_value.specs.Holds.{is_given, may_hold, AllHold}
 use Rattle.tx_value.specs.declared.fault.ValueFault.{ValueFault}
+use Rattle.tx_value.specs.declared.fault.ValueFault.TheVariants.{BadValue}
 use Rattle.tx_value.specs.declared.property.Named.{Named}
-use Rattle.tx_value.specs.declared.property.Named.TheVariants as named
 use Rattle.tx_value.specs.declared.property.Property.{Property}
 use Rattle.tx_value.specs.declared.property.Property.TheVariants as property
-use Rattle.tx_geom.specs.declared.choices.BorderKind.{BorderKind}
-use Rattle.tx_value.specs.declared.value.Ink.{Ink}
 use Rattle.tx_value.specs.declared.value.Value.{Value}
 use Rattle.tx_value.specs.declared.value.Value.TheVariants as value
-use Rattle.tx_value.specs.declared.value.Word.{Word}
-use Rattle.tx_value.specs.declared.tables.TheConstants.{DISPLAYS, VISIBILITIES, LAYOUTS, DOCKS, BOX_SIZINGS, OVERFLOWS, PLACES_ACROSS, PLACES_DOWN}
-use Rattle.tx_value.proofs.Passing.{passes, both_true, first_true, second_true}
+use Rattle.tx_value.specs.declared.tables.TheConstants.{INITIAL, DISPLAYS, VISIBILITIES, LAYOUTS, DOCKS, BOX_SIZINGS, OVERFLOWS, PLACES_ACROSS, PLACES_DOWN}
+use Rattle.tx_value.proofs.Joined.{some_of_ok}
+use Rattle.tx_value.proofs.Passing.{passes}
 use Rattle.tx_value.proofs.Sorts as sorts
 
 -- ---- one property
@@ -73,125 +71,46 @@ given_held : (p : Property) (v : Value) → is_given p v ≡ true → may_hold p
 given_held p value.Initial h = refl
 given_held p v h = h
 
--- ---- several
+-- ---- all properties of a name
 
 abbrev Passes : {A : Type 0} → (A → Type 0) → Option A → Type 0
 Passes P None = Unit {0}
 Passes P (Some a) = P a
 
-one_held : (p : Property) (o : Option Value) → passes (is_given p) o ≡ true → Passes AllHold (option_map (all.pairs (p ∷ [])) (option_map all.one_value o))
-one_held p None h = tt
-one_held p (Some v) h = (given_held p v h, tt)
+share_given : (p : Property) (o : Option (List Lexeme)) → passes (is_given p) (option_and_then (value_of p) o) ≡ true
+share_given p None = refl
+share_given p (Some ts) = value_given p ts
 
--- four numbers of cells
-abbrev are_cells : SideCells → Bool
-are_cells s = is_within 0 9999 s.top && (is_within 0 9999 s.right && (is_within 0 9999 s.bottom && is_within 0 9999 s.left))
+one_more : (p : Property) (o : Option Value) (rest : Option (List Pair)) → passes (is_given p) o ≡ true → Passes AllHold rest → Passes AllHold (joined (option_map (λ v. (p, v)) o) rest)
+one_more p None rest h more = tt
+one_more p (Some v) None h more = tt
+one_more p (Some v) (Some pairs) h more = (given_held p v h, more)
 
-four_pass : (t r b l : Option ℕ) → passes (is_within 0 9999) t ≡ true → passes (is_within 0 9999) r ≡ true → passes (is_within 0 9999) b ≡ true → passes (is_within 0 9999) l ≡ true → passes are_cells (all.four t r b l) ≡ true
-four_pass None r b l h i j k = refl
-four_pass (Some t) None b l h i j k = refl
-four_pass (Some t) (Some r) None l h i j k = refl
-four_pass (Some t) (Some r) (Some b) None h i j k = refl
-four_pass (Some t) (Some r) (Some b) (Some l) h i j k = both_true _ _ h (both_true _ _ i (both_true _ (is_within 0 9999 l) j k))
-
-sides_pass : (ts : List Lexeme) → passes are_cells (all.sides ts) ≡ true
-unfolding all.sides
-sides_pass [] = refl
-sides_pass (a ∷ []) = four_pass (all.cells a) (all.cells a) (all.cells a) (all.cells a) (sorts.whole_token 0 9999 a) (sorts.whole_token 0 9999 a) (sorts.whole_token 0 9999 a) (sorts.whole_token 0 9999 a)
-sides_pass (v ∷ h ∷ []) = four_pass (all.cells v) (all.cells h) (all.cells v) (all.cells h) (sorts.whole_token 0 9999 v) (sorts.whole_token 0 9999 h) (sorts.whole_token 0 9999 v) (sorts.whole_token 0 9999 h)
-sides_pass (t ∷ r ∷ b ∷ []) = refl
-sides_pass (t ∷ r ∷ b ∷ l ∷ []) = four_pass (all.cells t) (all.cells r) (all.cells b) (all.cells l) (sorts.whole_token 0 9999 t) (sorts.whole_token 0 9999 r) (sorts.whole_token 0 9999 b) (sorts.whole_token 0 9999 l)
-sides_pass (t ∷ r ∷ b ∷ l ∷ m ∷ ts) = refl
-
-margins_held : (o : Option SideCells) → passes are_cells o ≡ true → Passes AllHold (option_map (all.pairs (all.properties named.Margin)) (option_map all.four_wholes o))
-unfolding is_given
-margins_held None h = tt
-margins_held (Some s) h =
-    let rest = second_true (is_within 0 9999 s.top) _ h in
-    let more = second_true (is_within 0 9999 s.right) _ rest in
-    (first_true (is_within 0 9999 s.top) _ h, (first_true (is_within 0 9999 s.right) _ rest, (first_true (is_within 0 9999 s.bottom) (is_within 0 9999 s.left) more, (second_true (is_within 0 9999 s.bottom) (is_within 0 9999 s.left) more, tt))))
-
-paddings_held : (o : Option SideCells) → passes are_cells o ≡ true → Passes AllHold (option_map (all.pairs (all.properties named.Padding)) (option_map all.four_wholes o))
-unfolding is_given
-paddings_held None h = tt
-paddings_held (Some s) h =
-    let rest = second_true (is_within 0 9999 s.top) _ h in
-    let more = second_true (is_within 0 9999 s.right) _ rest in
-    (first_true (is_within 0 9999 s.top) _ h, (first_true (is_within 0 9999 s.right) _ rest, (first_true (is_within 0 9999 s.bottom) (is_within 0 9999 s.left) more, (second_true (is_within 0 9999 s.bottom) (is_within 0 9999 s.left) more, tt))))
-
-borders_held : (o : Option (Option BorderKind × Option Ink)) → passes (λ e. is_border (bordered e)) o ≡ true → Passes AllHold (option_map (all.pairs (all.properties named.Border)) (option_map all.four_values (option_map bordered o)))
-unfolding is_given
-borders_held None h = tt
-borders_held (Some e) h =
-    let held = λ (p : Property) (is : is_given p (bordered e) ≡ true). given_held p (bordered e) is in
-    (held property.BorderTop h, (held property.BorderRight h, (held property.BorderBottom h, (held property.BorderLeft h, tt))))
-
--- two keywords
-abbrev are_among : List Word → List Word → Word × Word → Bool
-are_among xs ys w = among xs w.0 && among ys w.1
-
-both_pass : (xs ys : List Word) (a b : Option Word) → passes (among xs) a ≡ true → passes (among ys) b ≡ true → passes (are_among xs ys) (all.both a b) ≡ true
-both_pass xs ys None b h i = refl
-both_pass xs ys (Some a) None h i = refl
-both_pass xs ys (Some a) (Some b) h i = both_true (among xs a) (among ys b) h i
-
-overflows_pass : (ts : List Lexeme) → passes (are_among OVERFLOWS OVERFLOWS) (all.overflows ts) ≡ true
-unfolding all.overflows
-overflows_pass [] = refl
-overflows_pass (a ∷ []) = both_pass OVERFLOWS OVERFLOWS (word_of OVERFLOWS a) (word_of OVERFLOWS a) (sorts.word_token OVERFLOWS a) (sorts.word_token OVERFLOWS a)
-overflows_pass (x ∷ y ∷ []) = both_pass OVERFLOWS OVERFLOWS (word_of OVERFLOWS x) (word_of OVERFLOWS y) (sorts.word_token OVERFLOWS x) (sorts.word_token OVERFLOWS y)
-overflows_pass (x ∷ y ∷ t ∷ ts) = refl
-
-places_pass : (ts : List Lexeme) → passes (are_among PLACES_ACROSS PLACES_DOWN) (all.places ts) ≡ true
-unfolding all.places
-places_pass [] = refl
-places_pass (h ∷ []) = refl
-places_pass (h ∷ v ∷ []) = both_pass PLACES_ACROSS PLACES_DOWN (word_of PLACES_ACROSS h) (word_of PLACES_DOWN v) (sorts.word_token PLACES_ACROSS h) (sorts.word_token PLACES_DOWN v)
-places_pass (h ∷ v ∷ t ∷ ts) = refl
-
-overflows_held : (o : Option (Word × Word)) → passes (are_among OVERFLOWS OVERFLOWS) o ≡ true → Passes AllHold (option_map (all.pairs (all.properties named.Overflow)) (option_map all.two_words o))
-unfolding is_given
-overflows_held None h = tt
-overflows_held (Some w) h = (first_true (among OVERFLOWS w.0) (among OVERFLOWS w.1) h, (second_true (among OVERFLOWS w.0) (among OVERFLOWS w.1) h, tt))
-
-aligns_held : (o : Option (Word × Word)) → passes (are_among PLACES_ACROSS PLACES_DOWN) o ≡ true → Passes AllHold (option_map (all.pairs (all.properties named.Align)) (option_map all.two_words o))
-unfolding is_given
-aligns_held None h = tt
-aligns_held (Some w) h = (first_true (among PLACES_ACROSS w.0) (among PLACES_DOWN w.1) h, (second_true (among PLACES_ACROSS w.0) (among PLACES_DOWN w.1) h, tt))
-
-content_aligns_held : (o : Option (Word × Word)) → passes (are_among PLACES_ACROSS PLACES_DOWN) o ≡ true → Passes AllHold (option_map (all.pairs (all.properties named.ContentAlign)) (option_map all.two_words o))
-unfolding is_given
-content_aligns_held None h = tt
-content_aligns_held (Some w) h = (first_true (among PLACES_ACROSS w.0) (among PLACES_DOWN w.1) h, (second_true (among PLACES_ACROSS w.0) (among PLACES_DOWN w.1) h, tt))
-
-named_held : (what : Named) (ts : List Lexeme) → Passes AllHold (option_map (all.pairs (all.properties what)) (all.values what ts))
-named_held (named.Longhand p) ts = one_held p (value_of p ts) (value_given p ts)
-named_held named.Margin ts = margins_held (all.sides ts) (sides_pass ts)
-named_held named.Padding ts = paddings_held (all.sides ts) (sides_pass ts)
-named_held named.Border ts = borders_held (edge ts) (sorts.edge ts)
-named_held named.Overflow ts = overflows_held (all.overflows ts) (overflows_pass ts)
-named_held named.Align ts = aligns_held (all.places ts) (places_pass ts)
-named_held named.ContentAlign ts = content_aligns_held (all.places ts) (places_pass ts)
+pairs_given : (what : Named) (ts : List Lexeme) (place : ℕ) (ps : List Property) → Passes AllHold (pairs_from what ts place ps)
+pairs_given what ts place [] = tt
+pairs_given what ts place (p ∷ ps) =
+    let o : Option (List Lexeme) = share what place ts in
+    one_more p (option_and_then (value_of p) o) (pairs_from what ts (place + 1) ps) (share_given p o) (pairs_given what ts (place + 1) ps)
 
 -- ---- `initial`
 
-initial_held : (ps : List Property) → AllHold (map (λ p. (p, value.Initial)) ps)
+initial_held : (ps : List Property) → AllHold (all_initial ps)
 initial_held [] = tt
 initial_held (p ∷ ps) = (refl, initial_held ps)
 
-either_held : (b : Bool) (x y : Option (List all.Pair)) → Passes AllHold x → Passes AllHold y → Passes AllHold (cond b x y)
+either_held : (b : Bool) (x y : Option (List Pair)) → Passes AllHold x → Passes AllHold y → Passes AllHold (cond b x y)
 either_held true x y h i = h
 either_held false x y h i = i
 
-pairs_held : (what : Named) (ts : List Lexeme) → Passes AllHold (all.pairs_of what ts)
-unfolding all.pairs_of
-pairs_held what ts = either_held (all.is_initial ts) _ _ (initial_held (all.properties what)) (named_held what ts)
+pairs_held : (what : Named) (ts : List Lexeme) → Passes AllHold (pairs_of what ts)
+unfolding pairs_of
+pairs_held what ts = either_held (is_only INITIAL.now ts) _ _ (initial_held (properties what)) (pairs_given what ts 0 (properties what))
 
 -- ---- the call
 
-found_held : (result : Result (Vec all.Pair Global) ValueFault) (read : Option (List all.Pair)) → Passes AllHold read → all.GivesFound result read → IfOk result (λ pairs. AllHold pairs.items)
-found_held (Ok found) read h is = let P : Option (List all.Pair) → Type 0 = Passes AllHold in subst P is h
-found_held (Err fault) read h is = tt
+answer_held : (result : Result (Vec Pair Global) ValueFault) (read : Option (List Pair)) → Passes AllHold read → GivesSome (λ pairs. pairs.items) result read → IfOk result (λ pairs. AllHold pairs.items)
+answer_held (Ok pairs) read h is = let P : Option (List Pair) → Type 0 = Passes AllHold in subst P (some_of_ok BadValue read pairs.items is) h
+answer_held (Err fault) read h is = tt
 
-pub all_held : (result : Result (Vec all.Pair Global) ValueFault) (what : Named) (ts : List Lexeme) → all.GivesFound result (all.pairs_of what ts) → IfOk result (λ pairs. AllHold pairs.items)
-all_held result what ts is = found_held result (all.pairs_of what ts) (pairs_held what ts) is
+pub all_held : (result : Result (Vec Pair Global) ValueFault) (what : Named) (ts : List Lexeme) → GivesSome (λ pairs. pairs.items) result (pairs_of what ts) → IfOk result (λ pairs. AllHold pairs.items)
+all_held result what ts is = answer_held result (pairs_of what ts) (pairs_held what ts) is

@@ -3,7 +3,8 @@ use Rattle.std.proofs.Common.{◌≡◌, ℕ, zero, suc, ◌+◌, ◌<◌, Bool,
 use Rattle.std.specs.List.{list_all, flat_map}
 use Rattle.std.proofs.lemmas.Bool.{false_from_ne_true}
 use Rattle.std.proofs.lemmas.Slice.Eq.{bytes_eq-Decides}
-use Rattle.tx_value.specs.Names.{entry, entry_in, meaning_of, tables, all_names}
+use Rattle.tx_read.specs.Words.{entry}
+use Rattle.tx_value.specs.Names.{entry_in, meaning_of, tables, all_names}
 
 -- each name has this length
 abbrev pub all_long : {A : Type 0} → ℕ → List (List ℕ × A) → Bool

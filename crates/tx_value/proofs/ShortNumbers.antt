@@ -5,32 +5,14 @@ use Rattle.std.specs.List.{list_all}
 use Rattle.std.specs.Char.{is_ascii_digit}
 use Rattle.std.proofs.Math.Nat.{mul_comm, div-mul_cancel, lt_of_mul-lt-mul_left, mul-mod_left, mul-le-mul, pow-le-pow_right}
 use Rattle.std.proofs.lemmas.Nat.{pow-add}
+use Rattle.std.proofs.lemmas.Bool.{and_parts, and_from}
 use Rattle.std.proofs.lemmas.Bool.Decides.{nat_tests}
-use Rattle.tx_read.specs.Number.{value, value_behind}
+use Rattle.tx_read.specs.Number.{value}
 use Rattle.tx_frac.specs.Ratio.{gcd, lowest}
-use Rattle.tx_frac.proofs.Gcd.{IsGcd-gcd}
+use Rattle.tx_frac.proofs.lemmas.Gcd.{IsGcd-gcd}
 use Rattle.tx_value.specs.Holds.{is_short}
 use Rattle.tx_value.specs.Numbers.{Numeral, numeral_of, with_whole, has_digits, amount, digits, behind_digits}
-use Rattle.tx_value.proofs.DigitLemmas.{digits_all, power_some}
-use Rattle.tx_value.proofs.Passing.{both_true, first_true, second_true}
-
--- ---- digits
-
-digit_small : (byte : ℕ) → is_ascii_digit byte ≡ true → byte - 48 ≤ 9
-digit_small byte is = grind (arith, nat_tests)
-
-value_behind_below : (n : ℕ) (bytes : List ℕ) → list_all is_ascii_digit bytes ≡ true → value_behind n bytes < (n + 1) * 10 ^ length bytes
-value_behind_below n [] all = omega arith
-value_behind_below n (byte ∷ bytes) all =
-    let digit : byte - 48 ≤ 9 = digit_small byte (first_true (is_ascii_digit byte) _ all) in
-    let rest : value_behind (n * 10 + (byte - 48)) bytes < (n * 10 + (byte - 48) + 1) * 10 ^ length bytes = value_behind_below (n * 10 + (byte - 48)) bytes (second_true (is_ascii_digit byte) _ all) in
-    let more : (n * 10 + (byte - 48) + 1) * 10 ^ length bytes ≤ ((n + 1) * 10) * 10 ^ length bytes = mul-le-mul (let h : n * 10 + (byte - 48) + 1 ≤ (n + 1) * 10 = omega arith in h) (let h : 10 ^ length bytes ≤ 10 ^ length bytes = omega arith in h) in
-    let longer : 10 ^ length (byte ∷ bytes) ≡ 10 ^ 1 * 10 ^ length bytes = ap (λ e. 10 ^ e) (let h : length (byte ∷ bytes) ≡ 1 + length bytes = omega arith in h) ∙ pow-add 10 1 (length bytes) in
-    let scaled : (n + 1) * 10 ^ length (byte ∷ bytes) ≡ ((n + 1) * 10) * 10 ^ length bytes = ap (λ p. (n + 1) * p) longer ∙ (let h : (n + 1) * (10 * 10 ^ length bytes) ≡ ((n + 1) * 10) * 10 ^ length bytes = omega arith in h) in
-    omega (arith, rest, more, scaled)
-
-value_below : (bytes : List ℕ) → list_all is_ascii_digit bytes ≡ true → value bytes < 10 ^ length bytes
-value_below bytes all = omega (arith, value_behind_below 0 bytes all)
+use Rattle.tx_value.proofs.Digits.{digits_all, power_some, value_below}
 
 -- ---- fractions
 
@@ -41,7 +23,7 @@ not_below n = grind (arith, nat_tests)
 -- a number of parts of a power of ten
 short_quotients : (n d g k : ℕ) → k ≤ 18 → d ≡ 10 ^ k → n < 10 ^ 9 * d → g * (n / g) ≡ n → g * (d / g) ≡ d
     → (nat_lt (n / g) (10 ^ 9 * (d / g)) && 10 ^ 18 % (d / g) == 0) ≡ true
-short_quotients n d g k most is below en ed = both_true _ _ less whole
+short_quotients n d g k most is below en ed = and_from _ _ less whole
   where
     less : nat_lt (n / g) (10 ^ 9 * (d / g)) ≡ true
     less =
@@ -64,7 +46,7 @@ short_lowest n k most below =
     let some : 0 < 10 ^ k = power_some k in
     let is = IsGcd-gcd n (10 ^ k) some in
     let g : ℕ = gcd n (10 ^ k) in
-    both_true _ _ (not_below (n / g)) (short_quotients n (10 ^ k) g k most refl below (mul_comm g (n / g) ∙ div-mul_cancel g is.0) (mul_comm g (10 ^ k / g) ∙ div-mul_cancel g is.1))
+    and_from _ _ (not_below (n / g)) (short_quotients n (10 ^ k) g k most refl below (mul_comm g (n / g) ∙ div-mul_cancel g is.0) (mul_comm g (10 ^ k / g) ∙ div-mul_cancel g is.1))
 
 -- ---- what a number writes
 
@@ -87,9 +69,9 @@ numeral_digits bytes = behind (digits bytes) (digits_all bytes) (behind_digits b
 -- the amount of a number of few digits is short
 pub short_amount : (n : Numeral) → AreDigits n → has_digits n.whole n.decimals ≡ true → is_short (amount n.whole n.decimals) ≡ true
 short_amount n are few =
-    let short : (nat_le (length n.whole) 9 && nat_le (length n.decimals) 18) ≡ true = second_true _ _ few in
-    let w : length n.whole ≤ 9 = at_most _ 9 (first_true (nat_le (length n.whole) 9) _ short) in
-    let d : length n.decimals ≤ 18 = at_most _ 18 (second_true (nat_le (length n.whole) 9) _ short) in
+    let short = and_parts (nat_le (length n.whole) 9) (nat_le (length n.decimals) 18) (and_parts _ _ few).1 in
+    let w : length n.whole ≤ 9 = at_most _ 9 short.0 in
+    let d : length n.decimals ≤ 18 = at_most _ 18 short.1 in
     let whole : value n.whole < 10 ^ length n.whole = value_below n.whole are.whole in
     let nine : 10 ^ length n.whole ≤ 10 ^ 9 = pow-le-pow_right {n = 10} (omega arith) w in
     let parts : value n.decimals < 10 ^ length n.decimals = value_below n.decimals are.decimals in

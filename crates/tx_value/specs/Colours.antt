@@ -1,10 +1,12 @@
 -- Colours in values.
-use Rattle.std.specs.Prelude.{ℕ, ◌+◌, ◌-◌, ◌*◌, Bool, ◌&&◌, nat_le, List, [], ◌∷◌, take, drop, map, Option, Some, None, option_map, if◌then◌else◌}
+use Rattle.std.specs.Option.{option_zip}
+use Rattle.std.specs.Prelude.{ℕ, ◌+◌, ◌-◌, ◌*◌, Bool, ◌&&◌, List, [], ◌∷◌, take, drop, map, Option, Some, None, option_map, if◌then◌else◌}
 use Rattle.tx_geom.specs.declared.colours.Rgb.{Rgb}
 use Rattle.tx_lex.specs.declared.token.TokenKind.{TokenKind}
 use Rattle.tx_lex.specs.Lexemes.{Lexeme, is_name_token, is_hash, is_variable, is_mark}
-use Rattle.tx_value.specs.Names.{entry, is_word}
-use Rattle.tx_value.specs.Numbers.{whole_of_token, percent_of}
+use Rattle.tx_read.specs.Words.{entry}
+use Rattle.tx_value.specs.Names.{is_word}
+use Rattle.tx_value.specs.Numbers.{is_within, whole_of_token, percent_of}
 use Rattle.tx_value.specs.Theme.{theme_name_of}
 use Rattle.tx_value.specs.declared.value.Hue.{Hue}
 use Rattle.tx_value.specs.declared.value.Hue.TheVariants.{Plain, Themed}
@@ -14,32 +16,21 @@ use Rattle.tx_value.specs.declared.tables.TheConstants.{COLOURS, RGB, TRANSPAREN
 
 -- ---- one token
 
-abbrev pub is_between : ℕ → ℕ → ℕ → Bool
-is_between least most byte = nat_le least byte && nat_le byte most
-
 -- a digit to base 16, in small or large letters
 abbrev pub hex_digit : ℕ → Option ℕ
 hex_digit byte =
-    if is_between 48 57 byte then Some (byte - 48)
-    else if is_between 97 102 byte then Some (byte - 87)
-    else if is_between 65 70 byte then Some (byte - 55)
+    if is_within 48 57 byte then Some (byte - 48)
+    else if is_within 97 102 byte then Some (byte - 87)
+    else if is_within 65 70 byte then Some (byte - 55)
     else None
 
 -- the channel that two digits write
-abbrev pub channel : Option ℕ → Option ℕ → Option ℕ
-channel (Some high) (Some low) = Some (high * 16 + low)
-channel (Some high) None = None
-channel None low = None
-
 abbrev pub hex_channel : ℕ → ℕ → Option ℕ
-hex_channel high low = channel (hex_digit high) (hex_digit low)
+hex_channel high low = option_map (λ digits. digits.0 * 16 + digits.1) (option_zip (hex_digit high) (hex_digit low))
 
--- a colour of three channels
+-- the colour of three channels
 abbrev pub rgb_of : Option ℕ → Option ℕ → Option ℕ → Option Rgb
-rgb_of (Some r) (Some g) (Some b) = Some (record { r = r; g = g; b = b })
-rgb_of (Some r) (Some g) None = None
-rgb_of (Some r) None b = None
-rgb_of None g b = None
+rgb_of r g b = option_map (λ rgb. record { r = rgb.0; g = rgb.1.0; b = rgb.1.1 }) (option_zip r (option_zip g b))
 
 -- what stands behind a `#`: three digits, each of which counts twice, or six
 abbrev pub hex_colour : List ℕ → Option Rgb
@@ -83,9 +74,7 @@ inked (Plain rgb) alpha = Fixed (record { rgb = rgb; alpha = alpha })
 inked (Themed name) alpha = Theme name alpha
 
 abbrev pub ink_of : Option Hue → Option ℕ → Option Ink
-ink_of (Some hue) (Some alpha) = Some (inked hue alpha)
-ink_of (Some hue) None = None
-ink_of None alpha = None
+ink_of hue alpha = option_map (λ ink. inked ink.0 ink.1) (option_zip hue alpha)
 
 abbrev pub black : Rgb
 black = record { r = 0; g = 0; b = 0 }
@@ -94,7 +83,7 @@ black = record { r = 0; g = 0; b = 0 }
 abbrev pub clear : Ink
 clear = Fixed (record { rgb = black; alpha = 0 })
 
--- the same, without a percentage behind it
+-- the same, where no percentage stands behind it
 abbrev pub transparent : List Lexeme → Option Ink
 transparent [] = Some clear
 transparent (t ∷ ts) = None

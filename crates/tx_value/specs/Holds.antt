@@ -5,9 +5,10 @@ use Rattle.tx_frac.specs.Ratio.{Ratio}
 use Rattle.tx_frac.specs.declared.scalars.Scalar.{Scalar}
 use Rattle.tx_frac.specs.declared.scalars.Unit.{Unit}
 use Rattle.tx_frac.specs.declared.scalars.Unit.TheVariants.{Auto}
-use Rattle.tx_tree.specs.Name.{is_name}
-use Rattle.tx_value.specs.Names.{among}
-use Rattle.tx_value.specs.Numbers.{is_share}
+use Rattle.tx_text.specs.Name.{is_name}
+use Rattle.tx_value.specs.Names.{same_word, among}
+use Rattle.tx_lex.specs.Digits.{most_whole, most_decimals}
+use Rattle.tx_value.specs.Numbers.{is_share, is_within}
 use Rattle.tx_value.specs.declared.property.Property.{Property}
 use Rattle.tx_value.specs.declared.property.Property.TheVariants as property
 use Rattle.tx_value.specs.declared.value.Ink.{Ink}
@@ -15,7 +16,8 @@ use Rattle.tx_value.specs.declared.value.Ink.TheVariants.{Fixed, Theme}
 use Rattle.tx_value.specs.declared.value.Value.{Value}
 use Rattle.tx_value.specs.declared.value.Value.TheVariants as value
 use Rattle.tx_value.specs.declared.value.Word.{Word}
-use Rattle.tx_value.specs.declared.tables.TheConstants.{DISPLAYS, VISIBILITIES, LAYOUTS, DOCKS, BOX_SIZINGS, OVERFLOWS, PLACES_ACROSS, PLACES_DOWN, NOTHINGS}
+use Rattle.tx_value.specs.declared.value.Word.TheVariants.{Nothing}
+use Rattle.tx_value.specs.declared.tables.TheConstants.{DISPLAYS, VISIBILITIES, LAYOUTS, DOCKS, BOX_SIZINGS, OVERFLOWS, PLACES_ACROSS, PLACES_DOWN}
 
 -- ---- sorts of values
 
@@ -27,7 +29,7 @@ is_word choices _ = false
 -- a number that is written with at most 9 digits before its point and 18 behind it: not below 0, below 10^9, and a whole
 -- number of parts of which 10^18 are one
 unfoldable pub is_short : Ratio → Bool
-is_short x = not (int_lt x.num (pos 0)) && (nat_lt (unsigned_abs x.num) (10 ^ 9 * x.den) && 10 ^ 18 % x.den == 0)
+is_short x = not (int_lt x.num (pos 0)) && (nat_lt (unsigned_abs x.num) (10 ^ most_whole * x.den) && 10 ^ most_decimals % x.den == 0)
 
 abbrev pub is_auto : Unit → Bool
 is_auto Auto = true
@@ -47,14 +49,11 @@ is_track s = is_short s.value && not (is_auto s.unit)
 
 -- `none`, or a size without `fr` and `auto`
 abbrev pub is_limit : Value → Bool
-is_limit (value.Word w) = among NOTHINGS w
+is_limit (value.Word w) = same_word Nothing w
 is_limit (value.Size s) = is_track s && not (is_share s.unit)
 is_limit _ = false
 
--- from one number to another
-abbrev pub is_within : ℕ → ℕ → ℕ → Bool
-is_within least most n = nat_le least n && nat_le n most
-
+-- a whole number from one number to another
 abbrev pub is_whole : ℕ → ℕ → Value → Bool
 is_whole least most (value.Whole n) = is_within least most n
 is_whole least most _ = false
@@ -70,7 +69,7 @@ is_optional_ink (Some ink) = is_ink ink
 
 -- `none`, or a kind with or without a colour
 abbrev pub is_border : Value → Bool
-is_border (value.Word w) = among NOTHINGS w
+is_border (value.Word w) = same_word Nothing w
 is_border (value.Border kind ink) = is_optional_ink ink
 is_border _ = false
 

@@ -3,6 +3,7 @@ use Rattle.std.specs.Prelude.{pos, [], None}
 use Rattle.tx_frac.specs.Ratio.{whole_of}
 use Rattle.tx_frac.specs.declared.scalars.Scalar.{Scalar}
 use Rattle.tx_frac.specs.declared.scalars.Unit.TheVariants.{Percent}
+use Rattle.tx_geom.specs.Marks.{no_marks}
 use Rattle.tx_value.specs.Colours.{clear}
 use Rattle.tx_value.specs.declared.property.Property.{Property}
 use Rattle.tx_value.specs.declared.property.Property.TheVariants as property
@@ -11,7 +12,6 @@ use Rattle.tx_value.specs.declared.value.Ink.TheVariants.{Theme}
 use Rattle.tx_value.specs.declared.value.Value.{Value}
 use Rattle.tx_value.specs.declared.value.Value.TheVariants as value
 use Rattle.tx_value.specs.declared.value.Word.TheVariants as word
-use Rattle.tx_value.specs.declared.tables.TheConstants.{NO_MARKS}
 
 -- the whole of what it is a size of
 abbrev pub whole_size : Scalar
@@ -43,7 +43,7 @@ initial property.BorderBottom = value.Word word.Nothing
 initial property.BorderLeft = value.Word word.Nothing
 initial property.Background = value.Ink clear
 initial property.Color = value.Ink (Theme Foreground 100)
-initial property.TextStyle = value.Marks NO_MARKS
+initial property.TextStyle = value.Marks no_marks
 initial property.GridSize = value.GridSize 1 None
 initial property.GridColumns = value.Sizes []
 initial property.GridRows = value.Sizes []

@@ -1,6 +1,7 @@
 -- Names and keywords, each found in its table.
 use Rattle.std.specs.Prelude.{ℕ, Bool, false, List, [], ◌∷◌, Option, Some, None, bytes_eq, is_some, map, if◌then◌else◌}
 use Rattle.std.specs.List.{list_any, flat_map}
+use Rattle.tx_read.specs.Words.{entry}
 use Rattle.tx_lex.specs.Lexemes.{Lexeme, is_name_token}
 use denote.Enum.Bare.{sameb}
 use Rattle.tx_value.specs.contracts.value.Word.{the_type}
@@ -8,12 +9,7 @@ use Rattle.tx_value.specs.declared.value.Word.{Word}
 use Rattle.tx_value.specs.declared.property.Named.{Named}
 use Rattle.tx_value.specs.declared.tables.TheConstants.{NAMES, WORDS}
 
--- what a table has at a name
-abbrev pub entry : {A : Type 0} → List (List ℕ × A) → List ℕ → Option A
-entry [] name = None
-entry (row ∷ rows) name = if bytes_eq row.0 name then Some row.1 else entry rows name
-
--- the same in a table that may not be there
+-- what a table has at a name, where there is a table
 abbrev pub entry_in : {A : Type 0} → Option (List (List ℕ × A)) → List ℕ → Option A
 entry_in None name = None
 entry_in (Some table) name = entry table name
@@ -25,6 +21,12 @@ name_in meaning t = if is_name_token t.kind then meaning t.bytes else None
 -- whether a lexeme is this name
 abbrev pub is_word : List ℕ → Lexeme → Bool
 is_word word t = if is_name_token t.kind then bytes_eq t.bytes word else false
+
+-- whether this name is the only lexeme
+abbrev pub is_only : List ℕ → List Lexeme → Bool
+is_only word [] = false
+is_only word (t ∷ []) = is_word word t
+is_only word (t ∷ t' ∷ ts) = false
 
 -- ---- keywords
 
@@ -46,9 +48,6 @@ keyword name = entry (map (λ row. (row.0.now, row.1)) WORDS) name
 -- a keyword, where it is one of these
 abbrev pub word_of : List Word → Lexeme → Option Word
 word_of choices t = if_among choices (name_in keyword t)
-
-abbrev pub is_one_of : List Word → Lexeme → Bool
-is_one_of choices t = is_some (word_of choices t)
 
 -- ---- names of declarations
 

@@ -7,9 +7,15 @@ use Rattle.tx_frac.specs.Ratio.{Ratio, lowest, whole_of}
 use Rattle.tx_frac.specs.declared.scalars.Scalar.{Scalar}
 use Rattle.tx_frac.specs.declared.scalars.Unit.{Unit}
 use Rattle.tx_frac.specs.declared.scalars.Unit.TheVariants.{Fr, Auto}
+use Rattle.tx_lex.specs.Digits.{most_whole, most_decimals}
 use Rattle.tx_lex.specs.Lexemes.{Lexeme, is_number}
-use Rattle.tx_value.specs.Names.{entry, is_one_of}
-use Rattle.tx_value.specs.declared.tables.TheConstants.{UNITS, AUTOS}
+use Rattle.tx_read.specs.Words.{entry}
+use Rattle.tx_value.specs.Names.{is_word}
+use Rattle.tx_value.specs.declared.tables.TheConstants.{UNITS, AUTO}
+
+-- from one number to another
+abbrev pub is_within : ℕ → ℕ → ℕ → Bool
+is_within least most n = nat_le least n && nat_le n most
 
 -- ---- a number without a sign
 
@@ -37,7 +43,7 @@ numeral_of bytes = with_whole (digits bytes) (behind_digits bytes)
 
 -- a digit or more, and no more than a token may have
 abbrev pub has_digits : List ℕ → List ℕ → Bool
-has_digits whole decimals = nat_lt 0 (length whole + length decimals) && (nat_le (length whole) 9 && nat_le (length decimals) 18)
+has_digits whole decimals = nat_lt 0 (length whole + length decimals) && (nat_le (length whole) most_whole && nat_le (length decimals) most_decimals)
 
 -- the number that the digits write
 abbrev pub amount : List ℕ → List ℕ → Ratio
@@ -62,7 +68,7 @@ auto = record { value = whole_of (pos 0); unit = Auto }
 
 -- the same, or `auto`
 abbrev pub size_of : Lexeme → Option Scalar
-size_of t = if is_one_of AUTOS t then Some auto else scalar_of t
+size_of t = if is_word AUTO.now t then Some auto else scalar_of t
 
 abbrev pub is_share : Unit → Bool
 is_share Fr = true
@@ -80,7 +86,7 @@ limit_of t = unless_share (scalar_of t)
 
 -- digits alone, at most as many as a token may have
 abbrev pub short_number : ℕ → List ℕ → Option ℕ
-short_number most bytes = if nat_le (length bytes) 9 then number_at_most most bytes else None
+short_number most bytes = if nat_le (length bytes) most_whole then number_at_most most bytes else None
 
 abbrev pub from_least : ℕ → Option ℕ → Option ℕ
 from_least least None = None

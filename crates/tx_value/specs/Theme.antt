@@ -1,7 +1,7 @@
 -- The predefined variables and their colours.
 use Rattle.std.specs.Prelude.{ℕ, Bool, List, map, Option, if◌then◌else◌}
 use Rattle.tx_geom.specs.declared.colours.Rgb.{Rgb}
-use Rattle.tx_value.specs.Names.{entry}
+use Rattle.tx_read.specs.Words.{entry}
 use Rattle.tx_value.specs.declared.theme.Tones.{Tones}
 use Rattle.tx_value.specs.declared.theme.ThemeName.{ThemeName}
 use Rattle.tx_value.specs.declared.theme.ThemeName.TheVariants.{Background, Surface, Panel, Primary, Secondary, Foreground, Text, Error, Success, Warning}

@@ -1,23 +1,23 @@
 -- The values of each property, as the table of properties has them. Spaces and comments are left out before.
-use Rattle.std.specs.Prelude.{◌≡◌, ℕ, ℤ, pos, Bool, ◌&&◌, ◌||◌, nat_le, List, [], ◌∷◌, length, map, Option, Some, None, option_map, is_some, Result, Ok, Err, Vec, if◌then◌else◌}
-use Rattle.std.specs.declared.alloc.Global.{Global}
-use Rattle.tx_value.specs.declared.fault.ValueFault.{ValueFault}
-use Rattle.tx_value.specs.declared.fault.ValueFault.TheVariants.{UnknownProperty, BadValue, NoMemory}
+use Rattle.std.specs.Prelude.{ℕ, ℤ, pos, ◌&&◌, List, [], ◌∷◌, length, map, Option, Some, None, option_map, if◌then◌else◌}
+use Rattle.std.specs.Option.{option_zip}
+use Rattle.tx_geom.specs.Marks.{no_marks, with_marks}
 use Rattle.tx_geom.specs.declared.choices.BorderKind.{BorderKind}
-use Rattle.tx_tree.specs.Name.{is_name}
-use Rattle.tx_lex.specs.Lexemes.{Lexeme}
-use Rattle.tx_value.specs.Names.{entry, name_in, word_of, is_one_of}
-use Rattle.tx_value.specs.Numbers.{scalar_of, size_of, limit_of, whole_of_token, signed_of}
+use Rattle.tx_geom.specs.declared.styles.TextStyle.{TextStyle}
+use Rattle.tx_text.specs.Name.{is_name}
+use Rattle.tx_lex.specs.Lexemes.{Lexeme, is_name_token}
+use Rattle.tx_read.specs.Words.{entry}
+use Rattle.tx_value.specs.Names.{is_word, is_only, name_in, word_of}
+use Rattle.tx_value.specs.Numbers.{is_within, scalar_of, size_of, limit_of, whole_of_token, signed_of}
 use Rattle.tx_value.specs.Colours.{colour}
 use Rattle.tx_value.specs.declared.property.Property.{Property}
 use Rattle.tx_value.specs.declared.property.Property.TheVariants as property
 use Rattle.tx_value.specs.declared.value.Ink.{Ink}
-use Rattle.tx_value.specs.declared.value.Marks.{Marks}
 use Rattle.tx_value.specs.declared.value.Value.{Value}
 use Rattle.tx_value.specs.declared.value.Value.TheVariants as value
 use Rattle.tx_value.specs.declared.value.Word.{Word}
 use Rattle.tx_value.specs.declared.value.Word.TheVariants.{Nothing}
-use Rattle.tx_value.specs.declared.tables.TheConstants.{DISPLAYS, VISIBILITIES, LAYOUTS, DOCKS, BOX_SIZINGS, OVERFLOWS, PLACES_ACROSS, PLACES_DOWN, NOTHINGS, BORDERS, MARKS, NO_MARKS}
+use Rattle.tx_value.specs.declared.tables.TheConstants.{DISPLAYS, VISIBILITIES, LAYOUTS, DOCKS, BOX_SIZINGS, OVERFLOWS, PLACES_ACROSS, PLACES_DOWN, NONE, BORDERS, MARKS}
 
 -- ---- one token, or some of one sort
 
@@ -27,10 +27,9 @@ alone reader [] = None
 alone reader (t ∷ []) = reader t
 alone reader (t ∷ t' ∷ ts) = None
 
+-- a first one and the rest, where there are both
 abbrev pub joined : {A : Type 0} → Option A → Option (List A) → Option (List A)
-joined (Some a) (Some rest) = Some (a ∷ rest)
-joined (Some a) None = None
-joined None rest = None
+joined first rest = option_map (λ both. both.0 ∷ both.1) (option_zip first rest)
 
 -- what each one gives, where all give something
 abbrev pub each : {A : Type 0} → (Lexeme → Option A) → List Lexeme → Option (List A)
@@ -39,7 +38,7 @@ each reader (t ∷ ts) = joined (reader t) (each reader ts)
 
 -- the same of one or more, up to a number
 abbrev pub some_of : {A : Type 0} → ℕ → (Lexeme → Option A) → List Lexeme → Option (List A)
-some_of most reader ts = if nat_le 1 (length ts) && nat_le (length ts) most then each reader ts else None
+some_of most reader ts = if is_within 1 most (length ts) then each reader ts else None
 
 -- ---- sorts of values
 
@@ -53,7 +52,7 @@ size ts = option_map (λ s. value.Size s) (alone size_of ts)
 
 -- `none`, or a size without `fr` and `auto`
 abbrev pub limit_in : Lexeme → Option Value
-limit_in t = if is_one_of NOTHINGS t then Some (value.Word Nothing) else option_map (λ s. value.Size s) (limit_of t)
+limit_in t = if is_word NONE.now t then Some (value.Word Nothing) else option_map (λ s. value.Size s) (limit_of t)
 
 abbrev pub limit : List Lexeme → Option Value
 limit ts = alone limit_in ts
@@ -70,76 +69,41 @@ optional_colour (t ∷ ts) = option_map (λ ink. Some ink) (colour (t ∷ ts))
 unfoldable pub border_kind : List ℕ → Option (Option BorderKind)
 border_kind name = entry (map (λ row. (row.0.now, row.1)) BORDERS) name
 
--- a kind with or without a colour, `none` too
-abbrev pub Edge : Type 0
-Edge = Option BorderKind × Option Ink
-
-abbrev pub edge_of : Option (Option BorderKind) → Option (Option Ink) → Option Edge
-edge_of (Some kind) (Some ink) = Some (kind, ink)
-edge_of (Some kind) None = None
-edge_of None ink = None
-
-unfoldable pub edge : List Lexeme → Option Edge
-edge [] = None
-edge (t ∷ ts) = edge_of (name_in border_kind t) (optional_colour ts)
-
 -- `none` is no border, whatever its colour
 abbrev pub drawn : Option BorderKind → Option Ink → Value
 drawn (Some kind) ink = value.Border kind ink
 drawn None ink = value.Word Nothing
 
-abbrev pub bordered : Edge → Value
-bordered e = drawn e.0 e.1
-
-abbrev pub border : List Lexeme → Option Value
-border ts = option_map bordered (edge ts)
+-- a kind with or without a colour, `none` too
+unfoldable pub border : List Lexeme → Option Value
+border [] = None
+border (t ∷ ts) = option_map (λ edge. drawn edge.0 edge.1) (option_zip (name_in border_kind t) (optional_colour ts))
 
 -- a colour
 abbrev pub ink : List Lexeme → Option Value
 ink ts = option_map (λ i. value.Ink i) (colour ts)
 
--- what has one of two marks or both
-abbrev pub either : Marks → Marks → Marks
-either a b =
-    record {
-      bold = a.bold || b.bold;
-      dim = a.dim || b.dim;
-      italic = a.italic || b.italic;
-      underline = a.underline || b.underline;
-      reverse = a.reverse || b.reverse;
-      strike = a.strike || b.strike;
-    }
-
-unfoldable pub mark_of : List ℕ → Option Marks
+-- a mark of a text
+unfoldable pub mark_of : List ℕ → Option TextStyle
 mark_of name = entry (map (λ row. (row.0.now, row.1)) MARKS) name
 
-abbrev pub marked : Option Marks → Option Marks → Option Marks
-marked (Some a) (Some b) = Some (either a b)
-marked (Some a) None = None
-marked None b = None
+abbrev pub marked : Option TextStyle → Option TextStyle → Option TextStyle
+marked mark more = option_map (λ both. with_marks both.0 both.1) (option_zip mark more)
 
-abbrev pub marks_of : List Lexeme → Option Marks
-marks_of [] = Some NO_MARKS
+abbrev pub marks_of : List Lexeme → Option TextStyle
+marks_of [] = Some no_marks
 marks_of (t ∷ ts) = marked (name_in mark_of t) (marks_of ts)
-
-abbrev pub is_nothing : List Lexeme → Bool
-is_nothing ts = is_some (alone (word_of NOTHINGS) ts)
 
 -- `none`, or one or more marks
 unfoldable pub text_style : List Lexeme → Option Value
 text_style [] = None
-text_style (t ∷ ts) = if is_nothing (t ∷ ts) then Some (value.Marks NO_MARKS) else option_map (λ m. value.Marks m) (marks_of (t ∷ ts))
+text_style (t ∷ ts) = if is_only NONE.now (t ∷ ts) then Some (value.Marks no_marks) else option_map (λ m. value.Marks m) (marks_of (t ∷ ts))
 
 -- columns, and rows where they are given
-abbrev pub with_rows : Option ℕ → Option (Option ℕ) → Option Value
-with_rows (Some columns) (Some rows) = Some (value.GridSize columns rows)
-with_rows (Some columns) None = None
-with_rows None rows = None
-
 unfoldable pub grid_size : List Lexeme → Option Value
 grid_size [] = None
-grid_size (c ∷ []) = with_rows (whole_of_token 1 100 c) (Some None)
-grid_size (c ∷ r ∷ []) = with_rows (whole_of_token 1 100 c) (option_map (λ n. Some n) (whole_of_token 1 1000 r))
+grid_size (c ∷ []) = option_map (λ columns. value.GridSize columns None) (whole_of_token 1 100 c)
+grid_size (c ∷ r ∷ []) = option_map (λ size. value.GridSize size.0 (Some size.1)) (option_zip (whole_of_token 1 100 c) (whole_of_token 1 1000 r))
 grid_size (c ∷ r ∷ t ∷ ts) = None
 
 -- sizes without `auto`
@@ -147,9 +111,7 @@ abbrev pub tracks : List Lexeme → Option Value
 tracks ts = option_map (λ sizes. value.Sizes sizes) (some_of 60 scalar_of ts)
 
 abbrev pub pair : Option ℤ → Option ℤ → Option Value
-pair (Some a) (Some b) = Some (value.Pair a b)
-pair (Some a) None = None
-pair None b = None
+pair first second = option_map (λ both. value.Pair both.0 both.1) (option_zip first second)
 
 abbrev pub cells : Lexeme → Option ℤ
 cells t = option_map (λ n. pos n) (whole_of_token 0 9999 t)
@@ -169,11 +131,8 @@ offset (x ∷ y ∷ []) = pair (signed_of 9999 x) (signed_of 9999 y)
 offset (x ∷ y ∷ t ∷ ts) = None
 
 -- a name of at most 64 bytes
-abbrev pub spelled_name : List ℕ → Option (List ℕ)
-spelled_name bytes = if is_name bytes then Some bytes else None
-
 abbrev pub name_of : Lexeme → Option (List ℕ)
-name_of t = name_in spelled_name t
+name_of t = if is_name_token t.kind && is_name t.bytes then Some t.bytes else None
 
 abbrev pub layers : List Lexeme → Option Value
 layers ts = option_map (λ names. value.Names names) (some_of 32 name_of ts)
@@ -226,19 +185,3 @@ value_of property.AlignVertical ts = word PLACES_DOWN ts
 value_of property.ContentAlignHorizontal ts = word PLACES_ACROSS ts
 value_of property.ContentAlignVertical ts = word PLACES_DOWN ts
 value_of property.TextAlign ts = word PLACES_ACROSS ts
-
--- ---- what the readers of the code answer
-
--- the value, or that there is none, unless memory is wanting
-abbrev pub GivesValue : Result Value ValueFault → Option Value → Type 0
-GivesValue (Ok v) read = read ≡ Some v
-GivesValue (Err BadValue) read = read ≡ None
-GivesValue (Err UnknownProperty) read = ⊥
-GivesValue (Err NoMemory) read = Unit {0}
-
--- the same of some items
-abbrev pub GivesItems : {A : Type 0} → Result (Vec A Global) ValueFault → Option (List A) → Type 0
-GivesItems (Ok items) read = read ≡ Some items.items
-GivesItems (Err BadValue) read = read ≡ None
-GivesItems (Err UnknownProperty) read = ⊥
-GivesItems (Err NoMemory) read = Unit {0}

@@ -1,17 +1,17 @@
 //! Colours in values.
-ghost use Rattle.std.specs.Prelude.{◌≡◌, ◌≤◌, ◌<◌, IfSome, option_map};
+ghost use Rattle.std.specs.Prelude.{◌≡◌, ◌≤◌, ◌<◌, Some, IfSome};
 ghost use Rattle.tx_lex.specs.Lexemes.{lexeme, lexemes};
 ghost use Rattle.tx_value.specs.Numbers.{whole_of_token};
-ghost use Rattle.tx_value.specs.declared.value.Hue.TheVariants.{Plain};
 ghost use Rattle.tx_value.specs.Colours.{hex_digit, hex_channel, rgb_of, hex_colour, colour_named, hue_of, are_marks, channels, alpha_of, inked, ink_of, clear, rgb_colour, colour};
 
-use crate::names::{entry, is_word};
+use crate::names::is_word;
 use crate::numbers::{percent_of, whole_of};
 use crate::tables::{COLOURS, RGB, TRANSPARENT};
 use crate::theme::theme_name_of;
 use crate::value::{Hue, Ink};
 use tx_geom::{Colour, Rgb};
-use tx_lex::{Token, TokenKind, behind, token_bytes};
+use tx_lex::{Token, TokenKind, token_bytes};
+use tx_read::{behind, entry, front};
 
 /// The value of a digit to base 16, in small or large letters.
 fn hex_digit(byte: u8) -> Option<u8>
@@ -30,28 +30,19 @@ fn hex_digit(byte: u8) -> Option<u8>
 fn hex_channel(high: u8, low: u8) -> Option<u8>
     ensures { result ≡ hex_channel high low }
 {
-    let Some(high) = hex_digit(high) else {
-        return None;
-    };
-    let Some(low) = hex_digit(low) else {
-        return None;
-    };
+    let high = hex_digit(high)?;
+    let low = hex_digit(low)?;
     Some(high * 16 + low)
 }
 
 fn rgb_of(r: Option<u8>, g: Option<u8>, b: Option<u8>) -> Option<Rgb>
     ensures { result ≡ rgb_of r g b }
 {
-    let Some(r) = r else {
-        return None;
-    };
-    let Some(g) = g else {
-        return None;
-    };
-    let Some(b) = b else {
-        return None;
-    };
-    Some(Rgb { r, g, b })
+    Some(Rgb {
+        r: r?,
+        g: g?,
+        b: b?,
+    })
 }
 
 /// The colour that stands behind a `#`: three digits, each of which counts twice, or six.
@@ -80,31 +71,19 @@ fn colour_named(name: &[u8]) -> Option<Rgb>
     entry(&COLOURS, name)
 }
 
-fn plain(rgb: Option<Rgb>) -> Option<Hue>
-    ensures { result ≡ option_map (λ rgb. Plain rgb) rgb }
-{
-    match rgb {
-        Some(rgb) => Some(Hue::Plain(rgb)),
-        None => None,
-    }
-}
-
 /// A colour of digits, a name, or a predefined variable.
 fn hue_of(text: &[u8], token: Token) -> Option<Hue>
     ensures { result ≡ hue_of (lexeme text.now token) }
 {
     let bytes = token_bytes(text, token);
     if token.kind.is_hash() {
-        return plain(hex_colour(behind(bytes, 1)));
+        return Some(Hue::Plain(hex_colour(behind(bytes, 1))?));
     }
     if token.kind.is_variable() {
-        return match theme_name_of(behind(bytes, 1)) {
-            Some(name) => Some(Hue::Themed(name)),
-            None => None,
-        };
+        return Some(Hue::Themed(theme_name_of(behind(bytes, 1))?));
     }
     if token.kind.is_name() {
-        return plain(colour_named(bytes));
+        return Some(Hue::Plain(colour_named(bytes)?));
     }
     None
 }
@@ -113,10 +92,7 @@ fn hue_of(text: &[u8], token: Token) -> Option<Hue>
 fn channel_of(text: &[u8], token: Token) -> Option<u8>
     ensures { result ≡ whole_of_token 0 255 (lexeme text.now token) }
 {
-    match whole_of(0, 255, text, token) {
-        Some(number) => Some(number as u8),
-        None => None,
-    }
+    Some(whole_of(0, 255, text, token)? as u8)
 }
 
 /// Whether marks are those of `(r, g, b)`.
@@ -152,10 +128,7 @@ fn alpha_of(text: &[u8], parts: &[Token]) -> Option<u8>
 {
     match parts {
         [] => Some(100),
-        [only] => match percent_of(text, *only) {
-            Some(percent) => Some(percent as u8),
-            None => None,
-        },
+        [only] => Some(percent_of(text, *only)? as u8),
         _ => None,
     }
 }
@@ -171,16 +144,10 @@ fn inked(hue: Hue, alpha: u8) -> Ink
 }
 
 /// A colour with what stands behind it.
-fn ink_of(hue: Option<Hue>, text: &[u8], rest: &[Token]) -> Option<Ink>
-    ensures { result ≡ ink_of hue (alpha_of (lexemes text.now rest.now)) }
+fn ink_of(hue: Hue, text: &[u8], rest: &[Token]) -> Option<Ink>
+    ensures { result ≡ ink_of (Some hue) (alpha_of (lexemes text.now rest.now)) }
 {
-    let Some(hue) = hue else {
-        return None;
-    };
-    match alpha_of(text, rest) {
-        Some(alpha) => Some(inked(hue, alpha)),
-        None => None,
-    }
+    Some(inked(hue, alpha_of(text, rest)?))
 }
 
 /// Black that covers nothing.
@@ -194,15 +161,11 @@ pub fn clear() -> Ink
 }
 
 /// What stands behind `rgb`.
-#[tactic(auto, using(crate::proofs::ColourLemmas::too_short))]
 fn rgb_colour(text: &[u8], rest: &[Token]) -> Option<Ink>
     ensures { result ≡ rgb_colour (lexemes text.now rest.now) }
 {
-    if rest.len() < 7 {
-        return None;
-    }
-    let (channel_parts, more) = rest.split_at(7);
-    ink_of(plain(channels(text, channel_parts)), text, more)
+    let rgb = channels(text, front(rest, 7))?;
+    ink_of(Hue::Plain(rgb), text, behind(rest, 7))
 }
 
 /// A colour.
@@ -219,5 +182,5 @@ pub fn colour(text: &[u8], parts: &[Token]) -> Option<Ink>
     if is_word(RGB, text, *first) {
         return rgb_colour(text, rest);
     }
-    ink_of(hue_of(text, *first), text, rest)
+    ink_of(hue_of(text, *first)?, text, rest)
 }

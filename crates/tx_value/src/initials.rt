@@ -4,11 +4,11 @@ ghost use Rattle.tx_value.specs.Initial.{initial, whole_size};
 
 use crate::colours::clear;
 use crate::property::Property;
-use crate::tables::NO_MARKS;
 use crate::theme::ThemeName;
 use crate::value::{Ink, Sizes, Value, Word};
 use std::alloc::Global;
 use tx_frac::{Frac, Scalar, Unit};
+use tx_geom::TextStyle;
 
 /// 100 percent.
 fn whole_size() -> Scalar
@@ -46,7 +46,7 @@ pub fn initial(alloc: Global, property: Property) -> Value
             name: ThemeName::Foreground,
             alpha: 100,
         }),
-        Property::TextStyle => Value::Marks(NO_MARKS),
+        Property::TextStyle => Value::Marks(TextStyle::PLAIN),
         Property::GridSize => Value::GridSize {
             columns: 1,
             rows: None,

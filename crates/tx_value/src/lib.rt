@@ -4,7 +4,6 @@
 //! [`values_of`] reads the values of a declaration, and a [`Style`] has one value for each property.
 #![tactic(auto)]
 
-mod blanks;
 mod colours;
 mod declaration;
 mod fault;
@@ -12,6 +11,7 @@ mod initials;
 pub mod laws;
 mod names;
 mod numbers;
+mod parts;
 mod property;
 mod style;
 mod tables;
@@ -28,4 +28,4 @@ pub use names::knows;
 pub use property::Property;
 pub use style::Style;
 pub use theme::{ThemeName, theme_colour, theme_name_of};
-pub use value::{Ink, Marks, Sizes, Value, Word};
+pub use value::{Ink, Sizes, Value, Word};

@@ -1,24 +1,13 @@
 //! Names and keywords, each found in its table.
 ghost use Rattle.std.specs.Prelude.{◌≡◌, length, map, slice_get};
-ghost use Rattle.tx_lex.specs.Lexemes.{lexeme};
-ghost use Rattle.tx_value.specs.Names.{entry, entry_in, is_word, keyword, same_word, among, word_of, is_one_of, meaning_of, is_known};
+ghost use Rattle.tx_lex.specs.Lexemes.{lexeme, lexemes};
+ghost use Rattle.tx_value.specs.Names.{entry_in, is_word, is_only, keyword, same_word, among, word_of, meaning_of, is_known};
 
 use crate::property::Named;
 use crate::tables::{NAMES, WORDS};
 use crate::value::Word;
 use tx_lex::{Token, token_bytes};
-
-/// What a table has at a name.
-pub fn entry<T: Copy>(table: &[(&[u8], T)], name: &[u8]) -> Option<T>
-    ensures { result ≡ entry (map (λ row. (row.0.now, row.1)) table.now) name.now }
-{
-    for row in table {
-        if row.0 == name {
-            return Some(row.1);
-        }
-    }
-    None
-}
+use tx_read::entry;
 
 #[tactic(auto, unfolding(crate::specs::Names::keyword))]
 fn keyword(name: &[u8]) -> Option<Word>
@@ -35,6 +24,16 @@ pub fn is_word(word: &[u8], text: &[u8], token: Token) -> bool
         token_bytes(text, token) == word
     } else {
         false
+    }
+}
+
+/// Whether this name is the only token.
+pub fn is_only(word: &[u8], text: &[u8], parts: &[Token]) -> bool
+    ensures { result ≡ is_only word.now (lexemes text.now parts.now) }
+{
+    match parts {
+        [only] => is_word(word, text, *only),
+        _ => false,
     }
 }
 
@@ -61,13 +60,6 @@ pub fn word_of(choices: &[Word], text: &[u8], token: Token) -> Option<Word>
         Some(word) if among(choices, word) => Some(word),
         _ => None,
     }
-}
-
-/// Whether a token is one of these keywords.
-pub fn is_one_of(choices: &[Word], text: &[u8], token: Token) -> bool
-    ensures { result ≡ is_one_of choices.now (lexeme text.now token) }
-{
-    word_of(choices, text, token).is_some()
 }
 
 /// What the table of the names that are as long as this one has at it.

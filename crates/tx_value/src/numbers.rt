@@ -1,86 +1,53 @@
 //! Numbers and sizes in values.
 ghost use Rattle.std.specs.Prelude.{◌≡◌, ◌≤◌, ◌<◌, ◌^◌, true, length, IfSome, IsTrue, None, if◌then◌else◌};
 ghost use Rattle.std.specs.Char.{is_ascii_digit};
-ghost use Rattle.std.specs.List.{prefix_len, list_all};
-ghost use Rattle.tx_read.specs.Number.{value};
+ghost use Rattle.std.specs.List.{list_all};
+ghost use Rattle.tx_lex.specs.Digits.{most_whole, most_decimals};
 ghost use Rattle.tx_lex.specs.Lexemes.{lexeme};
 ghost use Rattle.tx_value.specs.Numbers.{digits, behind_digits, numeral_of, has_digits, amount, unit_of, sized, scalar_of, auto, size_of, is_share, limit_of, short_number, whole_of_token, signed_number, signed_of, is_percent_sign, percent_of};
 
-use crate::names::{entry, is_one_of};
-use crate::tables::{AUTOS, UNITS};
+use crate::names::is_word;
+use crate::tables::{AUTO, UNITS};
 use tx_frac::{Frac, Scalar, Unit};
-use tx_lex::{Token, token_bytes};
-use tx_read::number_at_most;
-
-// The most digits that a number has before its point, and behind it.
-const MOST_DIGITS: usize = 9;
-
-const MOST_DECIMALS: usize = 18;
-
-/// How many digits stand at the front.
-fn digit_count(bytes: &[u8]) -> usize
-    ensures count { result ≡ prefix_len is_ascii_digit bytes.now }
-    ensures within { result ≤ length bytes.now }
-{
-    bytes
-        .iter()
-        .take_while(|byte| byte.is_ascii_digit())
-        .count()
-}
+use tx_lex::{MOST_DECIMALS, MOST_WHOLE, Token, token_bytes};
+use tx_read::{behind, capped_value, digit_count, entry, front, number_at_most};
 
 /// The digits at the front.
-#[tactic(auto, using(crate::proofs::DigitLemmas::digits_all))]
+#[tactic(auto, using(crate::proofs::Digits::digits_all))]
 fn digits(bytes: &[u8]) -> &[u8]
     ensures front { result.now ≡ digits bytes.now }
     ensures all { list_all is_ascii_digit result.now ≡ true }
 {
-    let (digits, _) = bytes.split_at(digit_count(bytes));
-    digits
+    front(bytes, digit_count(bytes))
 }
 
 /// What stands behind the digits at the front.
 fn behind_digits(bytes: &[u8]) -> &[u8]
     ensures { result.now ≡ behind_digits bytes.now }
 {
-    let (_, rest) = bytes.split_at(digit_count(bytes));
-    rest
-}
-
-/// The number that digits write.
-#[tactic(auto, using(crate::proofs::DigitLemmas::power_small))]
-fn value(digits: &[u8]) -> u64
-    requires digits { list_all is_ascii_digit digits.now ≡ true }
-    requires short { length digits.now ≤ 18 }
-    ensures value { result ≡ value digits.now }
-    ensures within { result < 10 ^ length digits.now }
-{
-    let mut value = 0u64;
-    for digit in digits {
-        value = value * 10 + digit.saturating_sub(b'0') as u64;
-    }
-    value
+    behind(bytes, digit_count(bytes))
 }
 
 /// Whether there is a digit, and no more than a number may have.
 fn has_digits(whole: &[u8], decimals: &[u8]) -> bool
-    ensures within { IsTrue result → (length whole.now ≤ 9) × (length decimals.now ≤ 18) }
+    ensures within { IsTrue result → (length whole.now ≤ most_whole) × (length decimals.now ≤ most_decimals) }
     ensures value { result ≡ has_digits whole.now decimals.now }
 {
     let some = !whole.is_empty() || !decimals.is_empty();
-    some && whole.len() <= MOST_DIGITS && decimals.len() <= MOST_DECIMALS
+    some && whole.len() <= MOST_WHOLE && decimals.len() <= MOST_DECIMALS
 }
 
 /// The number that digits and decimals write.
-#[tactic(auto, using(crate::proofs::DigitLemmas::power_small))]
+#[tactic(auto, using(crate::proofs::Digits::power_small))]
 fn amount(whole: &[u8], decimals: &[u8]) -> Frac
     requires whole_digits { list_all is_ascii_digit whole.now ≡ true }
     requires decimal_digits { list_all is_ascii_digit decimals.now ≡ true }
-    requires short_whole { length whole.now ≤ 9 }
-    requires short_decimals { length decimals.now ≤ 18 }
+    requires short_whole { length whole.now ≤ most_whole }
+    requires short_decimals { length decimals.now ≤ most_decimals }
     ensures { result ≡ amount whole.now decimals.now }
 {
     let scale = 10u64.pow(decimals.len() as u32);
-    let number = value(whole) as u128 * scale as u128 + value(decimals) as u128;
+    let number = capped_value(whole) as u128 * scale as u128 + capped_value(decimals) as u128;
     match Frac::new(number as i128, scale as i128) {
         Some(amount) => amount,
         None => unreachable!(),
@@ -100,9 +67,7 @@ fn sized(whole: &[u8], decimals: &[u8], unit: &[u8]) -> Option<Scalar>
     requires decimal_digits { list_all is_ascii_digit decimals.now ≡ true }
     ensures { result ≡ sized (record { whole = whole.now; decimals = decimals.now; unit = unit.now }) (unit_of unit.now) }
 {
-    let Some(unit) = unit_of(unit) else {
-        return None;
-    };
+    let unit = unit_of(unit)?;
     if !has_digits(whole, decimals) {
         return None;
     }
@@ -147,7 +112,7 @@ fn auto() -> Scalar
 pub fn size_of(text: &[u8], token: Token) -> Option<Scalar>
     ensures { result ≡ size_of (lexeme text.now token) }
 {
-    if is_one_of(&AUTOS, text, token) {
+    if is_word(AUTO, text, token) {
         Some(auto())
     } else {
         scalar_of(text, token)
@@ -175,7 +140,7 @@ fn short_number(most: u32, bytes: &[u8]) -> Option<u32>
     ensures number { result ≡ short_number most bytes.now }
     ensures within { IfSome result (λ n. n ≤ most) }
 {
-    if bytes.len() <= MOST_DIGITS {
+    if bytes.len() <= MOST_WHOLE {
         number_at_most(bytes, most)
     } else {
         None
@@ -201,14 +166,8 @@ fn signed_number(most: u32, bytes: &[u8]) -> Option<i32>
     ensures { result ≡ signed_number most bytes.now }
 {
     match bytes {
-        [b'-', rest @ ..] => match short_number(most, rest) {
-            Some(number) => Some(-(number as i32)),
-            None => None,
-        },
-        _ => match short_number(most, bytes) {
-            Some(number) => Some(number as i32),
-            None => None,
-        },
+        [b'-', rest @ ..] => Some(-(short_number(most, rest)? as i32)),
+        _ => Some(short_number(most, bytes)? as i32),
     }
 }
 

@@ -9,7 +9,7 @@ use crate::property::{EVERY_PROPERTY, Property};
 use crate::value::Value;
 use std::alloc::{AllocError, Global};
 use std::marker::Model;
-use tx_tree::NoMemory;
+use tx_text::NoMemory;
 
 /// A value for each property, in one block of memory. It is seen as the list of these, in the order
 /// of [`Property`].

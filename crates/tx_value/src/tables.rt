@@ -1,9 +1,22 @@
 //! The words of declarations and values, and what each stands for.
 
 use crate::property::{Named, Property};
-use crate::value::{Marks, Word};
+use crate::value::Word;
 use tx_frac::Unit;
-use tx_geom::{BorderKind, Rgb};
+use tx_geom::{BorderKind, Rgb, TextStyle};
+
+/// A colour by its channels.
+macro_rules! rgb {
+    ($r:literal, $g:literal, $b:literal) => {
+        Rgb {
+            r: $r,
+            g: $g,
+            b: $b,
+        }
+    };
+}
+
+pub(crate) use rgb;
 
 // The names of declarations: at each place those of that many bytes.
 pub const NAMES: [&[(&[u8], Named)]; 25] = [
@@ -174,9 +187,10 @@ pub const PLACES_ACROSS: [Word; 3] = [Word::Left, Word::Center, Word::Right];
 
 pub const PLACES_DOWN: [Word; 3] = [Word::Top, Word::Middle, Word::Bottom];
 
-pub const NOTHINGS: [Word; 1] = [Word::Nothing];
+// Words that are looked for by themselves.
+pub const NONE: &[u8] = b"none";
 
-pub const AUTOS: [Word; 1] = [Word::Auto];
+pub const AUTO: &[u8] = b"auto";
 
 pub const INITIAL: &[u8] = b"initial";
 
@@ -195,80 +209,47 @@ pub const BORDERS: [(&[u8], Option<BorderKind>); 7] = [
     (b"heavy", Some(BorderKind::Heavy)),
 ];
 
-pub const NO_MARKS: Marks = Marks {
-    bold: false,
-    dim: false,
-    italic: false,
-    underline: false,
-    reverse: false,
-    strike: false,
-};
-
-pub const MARKS: [(&[u8], Marks); 6] = [
+pub const MARKS: [(&[u8], TextStyle); 6] = [
     (
         b"bold",
-        Marks {
+        TextStyle {
             bold: true,
-            dim: false,
-            italic: false,
-            underline: false,
-            reverse: false,
-            strike: false,
+            ..TextStyle::PLAIN
         },
     ),
     (
         b"dim",
-        Marks {
-            bold: false,
+        TextStyle {
             dim: true,
-            italic: false,
-            underline: false,
-            reverse: false,
-            strike: false,
+            ..TextStyle::PLAIN
         },
     ),
     (
         b"italic",
-        Marks {
-            bold: false,
-            dim: false,
+        TextStyle {
             italic: true,
-            underline: false,
-            reverse: false,
-            strike: false,
+            ..TextStyle::PLAIN
         },
     ),
     (
         b"underline",
-        Marks {
-            bold: false,
-            dim: false,
-            italic: false,
+        TextStyle {
             underline: true,
-            reverse: false,
-            strike: false,
+            ..TextStyle::PLAIN
         },
     ),
     (
         b"reverse",
-        Marks {
-            bold: false,
-            dim: false,
-            italic: false,
-            underline: false,
+        TextStyle {
             reverse: true,
-            strike: false,
+            ..TextStyle::PLAIN
         },
     ),
     (
         b"strike",
-        Marks {
-            bold: false,
-            dim: false,
-            italic: false,
-            underline: false,
-            reverse: false,
+        TextStyle {
             strike: true,
+            ..TextStyle::PLAIN
         },
     ),
 ];
@@ -288,148 +269,22 @@ pub const UNITS: [(&[u8], Unit); 7] = [
 // ---- colours
 
 pub const COLOURS: [(&[u8], Rgb); 18] = [
-    (
-        b"black",
-        Rgb {
-            r: 0x00,
-            g: 0x00,
-            b: 0x00,
-        },
-    ),
-    (
-        b"white",
-        Rgb {
-            r: 0xff,
-            g: 0xff,
-            b: 0xff,
-        },
-    ),
-    (
-        b"red",
-        Rgb {
-            r: 0xff,
-            g: 0x00,
-            b: 0x00,
-        },
-    ),
-    (
-        b"green",
-        Rgb {
-            r: 0x00,
-            g: 0x80,
-            b: 0x00,
-        },
-    ),
-    (
-        b"blue",
-        Rgb {
-            r: 0x00,
-            g: 0x00,
-            b: 0xff,
-        },
-    ),
-    (
-        b"yellow",
-        Rgb {
-            r: 0xff,
-            g: 0xff,
-            b: 0x00,
-        },
-    ),
-    (
-        b"cyan",
-        Rgb {
-            r: 0x00,
-            g: 0xff,
-            b: 0xff,
-        },
-    ),
-    (
-        b"magenta",
-        Rgb {
-            r: 0xff,
-            g: 0x00,
-            b: 0xff,
-        },
-    ),
-    (
-        b"gray",
-        Rgb {
-            r: 0x80,
-            g: 0x80,
-            b: 0x80,
-        },
-    ),
-    (
-        b"grey",
-        Rgb {
-            r: 0x80,
-            g: 0x80,
-            b: 0x80,
-        },
-    ),
-    (
-        b"silver",
-        Rgb {
-            r: 0xc0,
-            g: 0xc0,
-            b: 0xc0,
-        },
-    ),
-    (
-        b"maroon",
-        Rgb {
-            r: 0x80,
-            g: 0x00,
-            b: 0x00,
-        },
-    ),
-    (
-        b"navy",
-        Rgb {
-            r: 0x00,
-            g: 0x00,
-            b: 0x80,
-        },
-    ),
-    (
-        b"teal",
-        Rgb {
-            r: 0x00,
-            g: 0x80,
-            b: 0x80,
-        },
-    ),
-    (
-        b"olive",
-        Rgb {
-            r: 0x80,
-            g: 0x80,
-            b: 0x00,
-        },
-    ),
-    (
-        b"purple",
-        Rgb {
-            r: 0x80,
-            g: 0x00,
-            b: 0x80,
-        },
-    ),
-    (
-        b"lime",
-        Rgb {
-            r: 0x00,
-            g: 0xff,
-            b: 0x00,
-        },
-    ),
-    (
-        b"orange",
-        Rgb {
-            r: 0xff,
-            g: 0xa5,
-            b: 0x00,
-        },
-    ),
+    (b"black", rgb!(0x00, 0x00, 0x00)),
+    (b"white", rgb!(0xff, 0xff, 0xff)),
+    (b"red", rgb!(0xff, 0x00, 0x00)),
+    (b"green", rgb!(0x00, 0x80, 0x00)),
+    (b"blue", rgb!(0x00, 0x00, 0xff)),
+    (b"yellow", rgb!(0xff, 0xff, 0x00)),
+    (b"cyan", rgb!(0x00, 0xff, 0xff)),
+    (b"magenta", rgb!(0xff, 0x00, 0xff)),
+    (b"gray", rgb!(0x80, 0x80, 0x80)),
+    (b"grey", rgb!(0x80, 0x80, 0x80)),
+    (b"silver", rgb!(0xc0, 0xc0, 0xc0)),
+    (b"maroon", rgb!(0x80, 0x00, 0x00)),
+    (b"navy", rgb!(0x00, 0x00, 0x80)),
+    (b"teal", rgb!(0x00, 0x80, 0x80)),
+    (b"olive", rgb!(0x80, 0x80, 0x00)),
+    (b"purple", rgb!(0x80, 0x00, 0x80)),
+    (b"lime", rgb!(0x00, 0xff, 0x00)),
+    (b"orange", rgb!(0xff, 0xa5, 0x00)),
 ];

@@ -1,17 +1,15 @@
+use crate::property::EVERY_PROPERTY;
 use crate::{
-    Ink, Marks, Property, Style, ThemeName, Value, ValueFault, Word, initial, knows, read_value,
+    Ink, Property, Style, ThemeName, Value, ValueFault, Word, initial, knows, read_value,
     theme_colour, theme_name_of, values_of,
 };
 use std::alloc::{AllocError, Global};
 use std::mem::size_of;
 use std::test::Fail;
+use tx_expect::{each_line, expect};
 use tx_frac::{Frac, Scalar};
-use tx_geom::Rgb;
+use tx_geom::{Rgb, TextStyle};
 use tx_lex::tokens;
-
-fn expect(fine: bool, what: &'static str) -> Result<(), Fail> {
-    if fine { Ok(()) } else { Err(Fail::from(what)) }
-}
 
 // ---- values as short texts
 
@@ -42,7 +40,7 @@ fn mark_text(on: bool, letter: &'static str) -> &'static str {
     if on { letter } else { "-" }
 }
 
-fn marks_text(alloc: Global, marks: &Marks) -> Result<String, AllocError> {
+fn marks_text(alloc: Global, marks: &TextStyle) -> Result<String, AllocError> {
     let mut shown = String::new(alloc);
     shown.push_str(mark_text(marks.bold, "b"))?;
     shown.push_str(mark_text(marks.dim, "d"))?;
@@ -101,17 +99,21 @@ fn pairs_text(alloc: Global, pairs: &[(Property, Value)]) -> Result<String, Allo
     let mut shown = String::new(alloc);
     for pair in pairs {
         let value = value_text(alloc, &pair.1)?;
-        let text = format!(in alloc; "{:?}={value} ", pair.0)?;
+        let text = format!(in alloc; "{:?}={value}", pair.0)?;
+        if !shown.is_empty() {
+            shown.push_str(" ")?;
+        }
         shown.push_str(text.as_str())?;
     }
     Ok(shown)
 }
 
-/// What is read, as a text.
-fn answer(alloc: Global, name: &str, values: &str) -> Result<String, Fail> {
-    if values.len() >= 10_000 {
+/// What is read of a name and values with a `:` between them.
+fn answer(alloc: Global, declaration: &str) -> Result<String, Fail> {
+    if declaration.len() >= 10_000 {
         return Err(Fail::from("a long text"));
     }
+    let (name, values) = declaration.split_once(":").ok_or("no values")?;
     let Ok(tokens) = tokens(alloc, values) else {
         return Err(Fail::from("no tokens"));
     };
@@ -123,328 +125,240 @@ fn answer(alloc: Global, name: &str, values: &str) -> Result<String, Fail> {
     }
 }
 
-fn reads(alloc: Global, cases: &[(&'static str, &'static str, &'static str)]) -> Result<(), Fail> {
-    for case in cases {
-        let shown = answer(alloc, case.0, case.1)?;
-        expect(shown.as_str() == case.2, case.1)?;
-    }
-    Ok(())
-}
-
 // ---- each property
 
 #[test]
 fn keywords_are_read(rt: HostRuntime) -> Result<(), Fail> {
-    reads(
-        rt.alloc(),
-        &[
-            ("display", "block", "Display=Block "),
-            ("display", " /* none */ none ", "Display=Nothing "),
-            ("display", "Block", "bad"),
-            ("display", "block none", "bad"),
-            ("display", "", "bad"),
-            ("display", "visible", "bad"),
-            ("visibility", "hidden", "Visibility=Hidden "),
-            ("visibility", "none", "bad"),
-            ("layout", "grid", "Layout=Grid "),
-            ("layout", "dock", "bad"),
-            ("dock", "left", "Dock=Left "),
-            ("dock", "none", "Dock=Nothing "),
-            ("dock", "center", "bad"),
-            ("box-sizing", "content-box", "BoxSizing=ContentBox "),
-            ("box-sizing", "auto", "bad"),
-            ("overflow-x", "scroll", "OverflowX=Scroll "),
-            ("overflow-x", "visible", "bad"),
-            ("overflow-y", "auto", "OverflowY=Auto "),
-            ("overflow-y", "auto auto", "bad"),
-            ("align-horizontal", "center", "AlignHorizontal=Center "),
-            ("align-horizontal", "middle", "bad"),
-            ("align-vertical", "middle", "AlignVertical=Middle "),
-            ("align-vertical", "center", "bad"),
-            (
-                "content-align-horizontal",
-                "right",
-                "ContentAlignHorizontal=Right ",
-            ),
-            ("content-align-horizontal", "top", "bad"),
-            (
-                "content-align-vertical",
-                "bottom",
-                "ContentAlignVertical=Bottom ",
-            ),
-            ("content-align-vertical", "left", "bad"),
-            ("text-align", "left", "TextAlign=Left "),
-            ("text-align", "justify", "bad"),
-        ],
+    let alloc = rt.alloc();
+    each_line(
+        "\
+display: block => Display=Block\n\
+display: /* none */ none  => Display=Nothing\n\
+display: Block => bad\n\
+display: block none => bad\n\
+display: => bad\n\
+display: visible => bad\n\
+visibility: hidden => Visibility=Hidden\n\
+visibility: none => bad\n\
+layout: grid => Layout=Grid\n\
+layout: dock => bad\n\
+dock: left => Dock=Left\n\
+dock: none => Dock=Nothing\n\
+dock: center => bad\n\
+box-sizing: content-box => BoxSizing=ContentBox\n\
+box-sizing: auto => bad\n\
+overflow-x: scroll => OverflowX=Scroll\n\
+overflow-x: visible => bad\n\
+overflow-y: auto => OverflowY=Auto\n\
+overflow-y: auto auto => bad\n\
+align-horizontal: center => AlignHorizontal=Center\n\
+align-horizontal: middle => bad\n\
+align-vertical: middle => AlignVertical=Middle\n\
+align-vertical: center => bad\n\
+content-align-horizontal: right => ContentAlignHorizontal=Right\n\
+content-align-horizontal: top => bad\n\
+content-align-vertical: bottom => ContentAlignVertical=Bottom\n\
+content-align-vertical: left => bad\n\
+text-align: left => TextAlign=Left\n\
+text-align: justify => bad",
+        |declaration| answer(alloc, declaration),
     )
 }
 
 #[test]
 fn numbers_are_read(rt: HostRuntime) -> Result<(), Fail> {
-    reads(
-        rt.alloc(),
-        &[
-            ("width", "12.5", "Width=12500Cells "),
-            ("width", ".25fr", "Width=250Fr "),
-            ("width", "auto", "Width=0Auto "),
-            ("width", "-1", "bad"),
-            ("width", "1px", "bad"),
-            ("width", "none", "bad"),
-            ("height", "50%", "Height=50000Percent "),
-            ("height", "3W", "bad"),
-            ("min-width", "7w", "MinWidth=7000W "),
-            ("min-width", "none", "MinWidth=Nothing "),
-            ("min-width", "auto", "bad"),
-            ("max-width", "7h", "MaxWidth=7000H "),
-            ("max-width", "1fr", "bad"),
-            ("min-height", "7vw", "MinHeight=7000Vw "),
-            ("min-height", "none none", "bad"),
-            ("max-height", "000000001.50vh", "MaxHeight=1500Vh "),
-            ("max-height", "1vq", "bad"),
-            ("margin-top", "9999", "MarginTop=9999 "),
-            ("margin-right", "10000", "bad"),
-            ("margin-bottom", "1.0", "bad"),
-            ("margin-left", "1%", "bad"),
-            ("padding-top", "0", "PaddingTop=0 "),
-            ("padding-right", "-1", "bad"),
-            ("padding-bottom", "007", "PaddingBottom=7 "),
-            ("padding-left", "1 2", "bad"),
-            ("column-span", "100", "ColumnSpan=100 "),
-            ("column-span", "101", "bad"),
-            ("row-span", "1", "RowSpan=1 "),
-            ("row-span", "0", "bad"),
-            ("grid-size", "100", "GridSize=100xNone "),
-            ("grid-size", "3 1000", "GridSize=3xSome(1000) "),
-            ("grid-size", "3 1001", "bad"),
-            ("grid-size", "0", "bad"),
-            ("grid-size", "1 0", "bad"),
-            ("grid-size", "1 2 3", "bad"),
-            ("grid-gutter", "3", "GridGutter=3/3 "),
-            ("grid-gutter", "1 2", "GridGutter=1/2 "),
-            ("grid-gutter", "-1", "bad"),
-            ("grid-gutter", "1 2 3", "bad"),
-            ("offset", "-9999 9999", "Offset=-9999/9999 "),
-            ("offset", "-0 3", "Offset=0/3 "),
-            ("offset", "1", "bad"),
-            ("offset", "-10000 0", "bad"),
-            (
-                "grid-columns",
-                "1fr 20 .5fr",
-                "GridColumns=1000Fr;20000Cells;500Fr; ",
-            ),
-            ("grid-columns", "auto", "bad"),
-            ("grid-rows", "10%", "GridRows=10000Percent; "),
-            ("grid-rows", "1 -1", "bad"),
-        ],
+    let alloc = rt.alloc();
+    each_line(
+        "\
+width: 12.5 => Width=12500Cells\n\
+width: .25fr => Width=250Fr\n\
+width: auto => Width=0Auto\n\
+width: -1 => bad\n\
+width: 1px => bad\n\
+width: none => bad\n\
+height: 50% => Height=50000Percent\n\
+height: 3W => bad\n\
+min-width: 7w => MinWidth=7000W\n\
+min-width: none => MinWidth=Nothing\n\
+min-width: auto => bad\n\
+max-width: 7h => MaxWidth=7000H\n\
+max-width: 1fr => bad\n\
+min-height: 7vw => MinHeight=7000Vw\n\
+min-height: none none => bad\n\
+max-height: 000000001.50vh => MaxHeight=1500Vh\n\
+max-height: 1vq => bad\n\
+margin-top: 9999 => MarginTop=9999\n\
+margin-right: 10000 => bad\n\
+margin-bottom: 1.0 => bad\n\
+margin-left: 1% => bad\n\
+padding-top: 0 => PaddingTop=0\n\
+padding-right: -1 => bad\n\
+padding-bottom: 007 => PaddingBottom=7\n\
+padding-left: 1 2 => bad\n\
+column-span: 100 => ColumnSpan=100\n\
+column-span: 101 => bad\n\
+row-span: 1 => RowSpan=1\n\
+row-span: 0 => bad\n\
+grid-size: 100 => GridSize=100xNone\n\
+grid-size: 3 1000 => GridSize=3xSome(1000)\n\
+grid-size: 3 1001 => bad\n\
+grid-size: 0 => bad\n\
+grid-size: 1 0 => bad\n\
+grid-size: 1 2 3 => bad\n\
+grid-gutter: 3 => GridGutter=3/3\n\
+grid-gutter: 1 2 => GridGutter=1/2\n\
+grid-gutter: -1 => bad\n\
+grid-gutter: 1 2 3 => bad\n\
+offset: -9999 9999 => Offset=-9999/9999\n\
+offset: -0 3 => Offset=0/3\n\
+offset: 1 => bad\n\
+offset: -10000 0 => bad\n\
+grid-columns: 1fr 20 .5fr => GridColumns=1000Fr;20000Cells;500Fr;\n\
+grid-columns: auto => bad\n\
+grid-rows: 10% => GridRows=10000Percent;\n\
+grid-rows: 1 -1 => bad",
+        |declaration| answer(alloc, declaration),
     )
 }
 
 #[test]
 fn names_and_marks_are_read(rt: HostRuntime) -> Result<(), Fail> {
-    reads(
-        rt.alloc(),
-        &[
-            ("text-style", "none", "TextStyle=------ "),
-            ("text-style", "bold", "TextStyle=b----- "),
-            ("text-style", "strike bold bold", "TextStyle=b----s "),
-            (
-                "text-style",
-                "dim italic underline reverse",
-                "TextStyle=-diur- ",
-            ),
-            ("text-style", "none bold", "bad"),
-            ("text-style", "bold none", "bad"),
-            ("text-style", "blink", "bad"),
-            ("layers", "base top base", "Layers=base;top;base; "),
-            ("layers", "none", "Layers=none; "),
-            ("layers", "initial a", "Layers=initial;a; "),
-            ("layers", "a, b", "bad"),
-            ("layers", "", "bad"),
-            ("layer", "top", "Layer=top "),
-            ("layer", "none", "Layer=none "),
-            ("layer", "a b", "bad"),
-            ("layer", "1", "bad"),
-            ("layer", "$text", "bad"),
-        ],
+    let alloc = rt.alloc();
+    each_line(
+        "\
+text-style: none => TextStyle=------\n\
+text-style: bold => TextStyle=b-----\n\
+text-style: strike bold bold => TextStyle=b----s\n\
+text-style: dim italic underline reverse => TextStyle=-diur-\n\
+text-style: none bold => bad\n\
+text-style: bold none => bad\n\
+text-style: blink => bad\n\
+layers: base top base => Layers=base;top;base;\n\
+layers: none => Layers=none;\n\
+layers: initial a => Layers=initial;a;\n\
+layers: a, b => bad\n\
+layers: => bad\n\
+layer: top => Layer=top\n\
+layer: none => Layer=none\n\
+layer: a b => bad\n\
+layer: 1 => bad\n\
+layer: $text => bad",
+        |declaration| answer(alloc, declaration),
     )
 }
 
 #[test]
 fn colours_are_read(rt: HostRuntime) -> Result<(), Fail> {
-    reads(
-        rt.alloc(),
-        &[
-            ("color", "#0aF", "Color=00aaff@100 "),
-            ("color", "#12AbeF 7%", "Color=12abef@7 "),
-            ("color", "rgb(1, 20, 255)", "Color=0114ff@100 "),
-            ("color", "rgb/**/( 1,2 ,3 ) 0%", "Color=010203@0 "),
-            ("color", "rgb(1,2,256)", "bad"),
-            ("color", "rgb(1,2)", "bad"),
-            ("color", "rgb(1 2 3)", "bad"),
-            ("color", "rgb(1,2,3", "bad"),
-            ("color", "Red", "bad"),
-            ("color", "red 101%", "bad"),
-            ("color", "red -1%", "bad"),
-            ("color", "red 50", "bad"),
-            ("color", "red 5.0%", "bad"),
-            ("color", "50% red", "bad"),
-            ("color", "#12", "bad"),
-            ("color", "#12345g", "bad"),
-            ("color", "#1234", "bad"),
-            ("background", "transparent", "Background=000000@0 "),
-            ("background", "transparent 50%", "bad"),
-            ("background", "$primary", "Background=Primary@100 "),
-            ("background", "$primary 60%", "Background=Primary@60 "),
-            ("background", "$other", "bad"),
-            ("background", "black", "Background=000000@100 "),
-            ("background", "white 100%", "Background=ffffff@100 "),
-            ("background", "red", "Background=ff0000@100 "),
-            ("background", "green", "Background=008000@100 "),
-            ("background", "blue", "Background=0000ff@100 "),
-            ("background", "yellow", "Background=ffff00@100 "),
-            ("background", "cyan", "Background=00ffff@100 "),
-            ("background", "magenta", "Background=ff00ff@100 "),
-            ("background", "gray", "Background=808080@100 "),
-            ("background", "grey", "Background=808080@100 "),
-            ("background", "silver", "Background=c0c0c0@100 "),
-            ("background", "maroon", "Background=800000@100 "),
-            ("background", "navy", "Background=000080@100 "),
-            ("background", "teal", "Background=008080@100 "),
-            ("background", "olive", "Background=808000@100 "),
-            ("background", "purple", "Background=800080@100 "),
-            ("background", "lime", "Background=00ff00@100 "),
-            ("background", "orange", "Background=ffa500@100 "),
-        ],
+    let alloc = rt.alloc();
+    each_line(
+        "\
+color: #0aF => Color=00aaff@100\n\
+color: #12AbeF 7% => Color=12abef@7\n\
+color: rgb(1, 20, 255) => Color=0114ff@100\n\
+color: rgb/**/( 1,2 ,3 ) 0% => Color=010203@0\n\
+color: rgb(1,2,256) => bad\n\
+color: rgb(1,2) => bad\n\
+color: rgb(1 2 3) => bad\n\
+color: rgb(1,2,3 => bad\n\
+color: Red => bad\n\
+color: red 101% => bad\n\
+color: red -1% => bad\n\
+color: red 50 => bad\n\
+color: red 5.0% => bad\n\
+color: 50% red => bad\n\
+color: #12 => bad\n\
+color: #12345g => bad\n\
+color: #1234 => bad\n\
+background: transparent => Background=000000@0\n\
+background: transparent 50% => bad\n\
+background: $primary => Background=Primary@100\n\
+background: $primary 60% => Background=Primary@60\n\
+background: $other => bad\n\
+background: black => Background=000000@100\n\
+background: white 100% => Background=ffffff@100\n\
+background: red => Background=ff0000@100\n\
+background: green => Background=008000@100\n\
+background: blue => Background=0000ff@100\n\
+background: yellow => Background=ffff00@100\n\
+background: cyan => Background=00ffff@100\n\
+background: magenta => Background=ff00ff@100\n\
+background: gray => Background=808080@100\n\
+background: grey => Background=808080@100\n\
+background: silver => Background=c0c0c0@100\n\
+background: maroon => Background=800000@100\n\
+background: navy => Background=000080@100\n\
+background: teal => Background=008080@100\n\
+background: olive => Background=808000@100\n\
+background: purple => Background=800080@100\n\
+background: lime => Background=00ff00@100\n\
+background: orange => Background=ffa500@100",
+        |declaration| answer(alloc, declaration),
     )
 }
 
 #[test]
 fn borders_are_read(rt: HostRuntime) -> Result<(), Fail> {
-    reads(
-        rt.alloc(),
-        &[
-            ("border-top", "round", "BorderTop=Round "),
-            (
-                "border-right",
-                "solid $panel",
-                "BorderRight=Solid Panel@100 ",
-            ),
-            (
-                "border-bottom",
-                "heavy #fff 50%",
-                "BorderBottom=Heavy ffffff@50 ",
-            ),
-            ("border-left", "none", "BorderLeft=Nothing "),
-            ("border-left", "none red", "BorderLeft=Nothing "),
-            ("border-top", "red", "bad"),
-            ("border-top", "red solid", "bad"),
-            ("border-right", "blank ascii", "bad"),
-            ("border-bottom", "dashed", "bad"),
-            ("border-left", "none none", "bad"),
-            (
-                "border",
-                "double rgb(1,2,3)",
-                "BorderTop=Double 010203@100 BorderRight=Double 010203@100 BorderBottom=Double 010203@100 BorderLeft=Double 010203@100 ",
-            ),
-            (
-                "border",
-                "ascii",
-                "BorderTop=Ascii BorderRight=Ascii BorderBottom=Ascii BorderLeft=Ascii ",
-            ),
-            (
-                "border",
-                "blank",
-                "BorderTop=Blank BorderRight=Blank BorderBottom=Blank BorderLeft=Blank ",
-            ),
-            ("border", "red", "bad"),
-        ],
+    let alloc = rt.alloc();
+    each_line(
+        "\
+border-top: round => BorderTop=Round\n\
+border-right: solid $panel => BorderRight=Solid Panel@100\n\
+border-bottom: heavy #fff 50% => BorderBottom=Heavy ffffff@50\n\
+border-left: none => BorderLeft=Nothing\n\
+border-left: none red => BorderLeft=Nothing\n\
+border-top: red => bad\n\
+border-top: red solid => bad\n\
+border-right: blank ascii => bad\n\
+border-bottom: dashed => bad\n\
+border-left: none none => bad\n\
+border: double rgb(1,2,3) => BorderTop=Double 010203@100 BorderRight=Double 010203@100 BorderBottom=Double 010203@100 BorderLeft=Double 010203@100\n\
+border: ascii => BorderTop=Ascii BorderRight=Ascii BorderBottom=Ascii BorderLeft=Ascii\n\
+border: blank => BorderTop=Blank BorderRight=Blank BorderBottom=Blank BorderLeft=Blank\n\
+border: red => bad",
+        |declaration| answer(alloc, declaration),
     )
 }
 
 #[test]
 fn names_for_several_are_read(rt: HostRuntime) -> Result<(), Fail> {
-    reads(
-        rt.alloc(),
-        &[
-            (
-                "margin",
-                "1",
-                "MarginTop=1 MarginRight=1 MarginBottom=1 MarginLeft=1 ",
-            ),
-            (
-                "margin",
-                "1 2",
-                "MarginTop=1 MarginRight=2 MarginBottom=1 MarginLeft=2 ",
-            ),
-            ("margin", "1 2 3", "bad"),
-            (
-                "margin",
-                "1 2 3 4",
-                "MarginTop=1 MarginRight=2 MarginBottom=3 MarginLeft=4 ",
-            ),
-            ("margin", "1 2 3 4 5", "bad"),
-            ("margin", "initial 1", "bad"),
-            (
-                "margin",
-                "initial",
-                "MarginTop=initial MarginRight=initial MarginBottom=initial MarginLeft=initial ",
-            ),
-            (
-                "padding",
-                "0 9999",
-                "PaddingTop=0 PaddingRight=9999 PaddingBottom=0 PaddingLeft=9999 ",
-            ),
-            ("padding", "-1", "bad"),
-            ("overflow", "auto", "OverflowX=Auto OverflowY=Auto "),
-            (
-                "overflow",
-                "hidden auto",
-                "OverflowX=Hidden OverflowY=Auto ",
-            ),
-            ("overflow", "auto auto auto", "bad"),
-            (
-                "align",
-                "center middle",
-                "AlignHorizontal=Center AlignVertical=Middle ",
-            ),
-            ("align", "middle center", "bad"),
-            ("align", "center", "bad"),
-            (
-                "content-align",
-                "right top",
-                "ContentAlignHorizontal=Right ContentAlignVertical=Top ",
-            ),
-            ("content-align", "top", "bad"),
-            (
-                "align",
-                "/**/ initial ",
-                "AlignHorizontal=initial AlignVertical=initial ",
-            ),
-            ("color", "initial", "Color=initial "),
-            ("color", "initial 50%", "bad"),
-            ("colour", "red", "unknown"),
-            ("Color", "red", "unknown"),
-            ("", "red", "unknown"),
-            ("content-align-horizontal-x", "left", "unknown"),
-        ],
+    let alloc = rt.alloc();
+    each_line(
+        "\
+margin: 1 => MarginTop=1 MarginRight=1 MarginBottom=1 MarginLeft=1\n\
+margin: 1 2 => MarginTop=1 MarginRight=2 MarginBottom=1 MarginLeft=2\n\
+margin: 1 2 3 => bad\n\
+margin: 1 2 3 4 => MarginTop=1 MarginRight=2 MarginBottom=3 MarginLeft=4\n\
+margin: 1 2 3 4 5 => bad\n\
+margin: initial 1 => bad\n\
+margin: initial => MarginTop=initial MarginRight=initial MarginBottom=initial MarginLeft=initial\n\
+padding: 0 9999 => PaddingTop=0 PaddingRight=9999 PaddingBottom=0 PaddingLeft=9999\n\
+padding: -1 => bad\n\
+overflow: auto => OverflowX=Auto OverflowY=Auto\n\
+overflow: hidden auto => OverflowX=Hidden OverflowY=Auto\n\
+overflow: auto auto auto => bad\n\
+align: center middle => AlignHorizontal=Center AlignVertical=Middle\n\
+align: middle center => bad\n\
+align: center => bad\n\
+content-align: right top => ContentAlignHorizontal=Right ContentAlignVertical=Top\n\
+content-align: top => bad\n\
+align: /**/ initial  => AlignHorizontal=initial AlignVertical=initial\n\
+color: initial => Color=initial\n\
+color: initial 50% => bad\n\
+colour: red => unknown\n\
+Color:red => unknown\n\
+: red => unknown\n\
+content-align-horizontal-x: left => unknown",
+        |declaration| answer(alloc, declaration),
     )
 }
 
 // ---- limits
 
-/// A text so many times.
-fn repeated(alloc: Global, text: &str, count: u32) -> Result<String, AllocError> {
-    let mut all = String::new(alloc);
-    for _ in 0..count {
-        all.push_str(text)?;
-    }
-    Ok(all)
-}
-
 /// Whether a name takes a text so many times.
-fn takes(alloc: Global, name: &str, text: &str, count: u32) -> Result<bool, Fail> {
-    let values = repeated(alloc, text, count)?;
-    let shown = answer(alloc, name, values.as_str())?;
+fn takes(alloc: Global, name: &str, text: &str, count: usize) -> Result<bool, Fail> {
+    let values = text.repeat(alloc, count)?;
+    let declaration = format!(in alloc; "{name}:{}", values.as_str())?;
+    let shown = answer(alloc, declaration.as_str())?;
     Ok(shown.as_str() != "bad")
 }
 
@@ -476,35 +390,32 @@ fn names_are_known(rt: HostRuntime) -> Result<(), Fail> {
     )
 }
 
-fn tone(alloc: Global, name: &[u8], dark: bool) -> Result<String, Fail> {
-    let Some(name) = theme_name_of(name) else {
-        return Err(Fail::from("no name"));
-    };
-    Ok(rgb_text(alloc, theme_colour(name, dark))?)
+/// The colours of a variable in the dark theme and in the light one.
+fn tones(alloc: Global, name: &str) -> Result<String, Fail> {
+    let name = theme_name_of(name.as_bytes()).ok_or("no name")?;
+    let dark = rgb_text(alloc, theme_colour(name, true))?;
+    let light = rgb_text(alloc, theme_colour(name, false))?;
+    Ok(format!(in alloc; "{dark} {light}")?)
 }
 
 #[test]
 fn themes_have_colours(rt: HostRuntime) -> Result<(), Fail> {
     let alloc = rt.alloc();
-    let cases: [(&[u8], &str, &str); 10] = [
-        (b"background", "121212", "e0e0e0"),
-        (b"surface", "1e1e1e", "d8d8d8"),
-        (b"panel", "242f38", "d0d0d0"),
-        (b"primary", "0178d4", "004578"),
-        (b"secondary", "004578", "0178d4"),
-        (b"foreground", "e0e0e0", "1f1f1f"),
-        (b"text", "ffffff", "000000"),
-        (b"error", "ba3c5b", "ba3c5b"),
-        (b"success", "4ebf71", "2e7f41"),
-        (b"warning", "ffa62b", "9f6000"),
-    ];
-    for case in &cases {
-        let dark = tone(alloc, case.0, true)?;
-        expect(dark.as_str() == case.1, case.1)?;
-        let light = tone(alloc, case.0, false)?;
-        expect(light.as_str() == case.2, case.2)?;
-    }
-    expect(theme_name_of(b"Text").is_none(), "a capital letter")
+    expect(theme_name_of(b"Text").is_none(), "a capital letter")?;
+    each_line(
+        "\
+background => 121212 e0e0e0\n\
+surface => 1e1e1e d8d8d8\n\
+panel => 242f38 d0d0d0\n\
+primary => 0178d4 004578\n\
+secondary => 004578 0178d4\n\
+foreground => e0e0e0 1f1f1f\n\
+text => ffffff 000000\n\
+error => ba3c5b ba3c5b\n\
+success => 4ebf71 2e7f41\n\
+warning => ffa62b 9f6000",
+        |name| tones(alloc, name),
+    )
 }
 
 // ---- styles
@@ -513,37 +424,72 @@ fn style_text(alloc: Global, style: &Style, property: Property) -> Result<String
     value_text(alloc, style.get(property))
 }
 
+/// The initial value of a property, and the one that a new style has for it.
+fn initial_text(alloc: Global, name: &str) -> Result<String, Fail> {
+    for property in EVERY_PROPERTY {
+        let text = format!(in alloc; "{property:?}")?;
+        if text.as_str() == name {
+            let shown = value_text(alloc, &initial(alloc, property))?;
+            let in_style = style_text(alloc, &Style::initial(alloc)?, property)?;
+            expect(
+                shown.as_str() == in_style.as_str(),
+                "another value in a style",
+            )?;
+            return Ok(shown);
+        }
+    }
+    Err(Fail::from("no property"))
+}
+
 #[test]
 fn styles_begin_with_initial_values(rt: HostRuntime) -> Result<(), Fail> {
     let alloc = rt.alloc();
-    let style = Style::initial(alloc)?;
-    let cases: [(Property, &str); 18] = [
-        (Property::Display, "Block"),
-        (Property::Dock, "Nothing"),
-        (Property::Width, "100000Percent"),
-        (Property::MaxHeight, "Nothing"),
-        (Property::BoxSizing, "BorderBox"),
-        (Property::PaddingLeft, "0"),
-        (Property::BorderTop, "Nothing"),
-        (Property::Background, "000000@0"),
-        (Property::Color, "Foreground@100"),
-        (Property::TextStyle, "------"),
-        (Property::GridSize, "1xNone"),
-        (Property::GridColumns, ""),
-        (Property::GridGutter, "0/0"),
-        (Property::RowSpan, "1"),
-        (Property::Layers, "Nothing"),
-        (Property::OverflowY, "Hidden"),
-        (Property::Offset, "0/0"),
-        (Property::TextAlign, "Left"),
-    ];
-    for case in &cases {
-        let shown = style_text(alloc, &style, case.0)?;
-        expect(shown.as_str() == case.1, case.1)?;
-        let alone = value_text(alloc, &initial(alloc, case.0))?;
-        expect(alone.as_str() == case.1, case.1)?;
-    }
-    Ok(())
+    each_line(
+        "\
+Display => Block\n\
+Visibility => Visible\n\
+Layout => Vertical\n\
+Dock => Nothing\n\
+Width => 100000Percent\n\
+Height => 100000Percent\n\
+MinWidth => Nothing\n\
+MaxWidth => Nothing\n\
+MinHeight => Nothing\n\
+MaxHeight => Nothing\n\
+BoxSizing => BorderBox\n\
+MarginTop => 0\n\
+MarginRight => 0\n\
+MarginBottom => 0\n\
+MarginLeft => 0\n\
+PaddingTop => 0\n\
+PaddingRight => 0\n\
+PaddingBottom => 0\n\
+PaddingLeft => 0\n\
+BorderTop => Nothing\n\
+BorderRight => Nothing\n\
+BorderBottom => Nothing\n\
+BorderLeft => Nothing\n\
+Background => 000000@0\n\
+Color => Foreground@100\n\
+TextStyle => ------\n\
+GridSize => 1xNone\n\
+GridColumns => \n\
+GridRows => \n\
+GridGutter => 0/0\n\
+ColumnSpan => 1\n\
+RowSpan => 1\n\
+Layers => Nothing\n\
+Layer => Nothing\n\
+OverflowX => Hidden\n\
+OverflowY => Hidden\n\
+Offset => 0/0\n\
+AlignHorizontal => Left\n\
+AlignVertical => Top\n\
+ContentAlignHorizontal => Left\n\
+ContentAlignVertical => Top\n\
+TextAlign => Left",
+        |name| initial_text(alloc, name),
+    )
 }
 
 #[test]

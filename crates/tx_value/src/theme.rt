@@ -2,8 +2,9 @@
 ghost use Rattle.std.specs.Prelude.{◌≡◌};
 ghost use Rattle.tx_value.specs.Theme.{theme_name_of, theme_colour, tones_of};
 
-use crate::names::entry;
+use crate::tables::rgb;
 use tx_geom::Rgb;
+use tx_read::entry;
 
 /// A variable that is defined before the first line of a stylesheet.
 #[derive(Clone, Copy, Debug, PartialEq, Eq)]
@@ -42,133 +43,53 @@ pub struct Tones {
 }
 
 pub const BACKGROUND: Tones = Tones {
-    dark: Rgb {
-        r: 0x12,
-        g: 0x12,
-        b: 0x12,
-    },
-    light: Rgb {
-        r: 0xe0,
-        g: 0xe0,
-        b: 0xe0,
-    },
+    dark: rgb!(0x12, 0x12, 0x12),
+    light: rgb!(0xe0, 0xe0, 0xe0),
 };
 
 pub const SURFACE: Tones = Tones {
-    dark: Rgb {
-        r: 0x1e,
-        g: 0x1e,
-        b: 0x1e,
-    },
-    light: Rgb {
-        r: 0xd8,
-        g: 0xd8,
-        b: 0xd8,
-    },
+    dark: rgb!(0x1e, 0x1e, 0x1e),
+    light: rgb!(0xd8, 0xd8, 0xd8),
 };
 
 pub const PANEL: Tones = Tones {
-    dark: Rgb {
-        r: 0x24,
-        g: 0x2f,
-        b: 0x38,
-    },
-    light: Rgb {
-        r: 0xd0,
-        g: 0xd0,
-        b: 0xd0,
-    },
+    dark: rgb!(0x24, 0x2f, 0x38),
+    light: rgb!(0xd0, 0xd0, 0xd0),
 };
 
 pub const PRIMARY: Tones = Tones {
-    dark: Rgb {
-        r: 0x01,
-        g: 0x78,
-        b: 0xd4,
-    },
-    light: Rgb {
-        r: 0x00,
-        g: 0x45,
-        b: 0x78,
-    },
+    dark: rgb!(0x01, 0x78, 0xd4),
+    light: rgb!(0x00, 0x45, 0x78),
 };
 
 pub const SECONDARY: Tones = Tones {
-    dark: Rgb {
-        r: 0x00,
-        g: 0x45,
-        b: 0x78,
-    },
-    light: Rgb {
-        r: 0x01,
-        g: 0x78,
-        b: 0xd4,
-    },
+    dark: rgb!(0x00, 0x45, 0x78),
+    light: rgb!(0x01, 0x78, 0xd4),
 };
 
 pub const FOREGROUND: Tones = Tones {
-    dark: Rgb {
-        r: 0xe0,
-        g: 0xe0,
-        b: 0xe0,
-    },
-    light: Rgb {
-        r: 0x1f,
-        g: 0x1f,
-        b: 0x1f,
-    },
+    dark: rgb!(0xe0, 0xe0, 0xe0),
+    light: rgb!(0x1f, 0x1f, 0x1f),
 };
 
 pub const TEXT: Tones = Tones {
-    dark: Rgb {
-        r: 0xff,
-        g: 0xff,
-        b: 0xff,
-    },
-    light: Rgb {
-        r: 0x00,
-        g: 0x00,
-        b: 0x00,
-    },
+    dark: rgb!(0xff, 0xff, 0xff),
+    light: rgb!(0x00, 0x00, 0x00),
 };
 
 pub const ERROR: Tones = Tones {
-    dark: Rgb {
-        r: 0xba,
-        g: 0x3c,
-        b: 0x5b,
-    },
-    light: Rgb {
-        r: 0xba,
-        g: 0x3c,
-        b: 0x5b,
-    },
+    dark: rgb!(0xba, 0x3c, 0x5b),
+    light: rgb!(0xba, 0x3c, 0x5b),
 };
 
 pub const SUCCESS: Tones = Tones {
-    dark: Rgb {
-        r: 0x4e,
-        g: 0xbf,
-        b: 0x71,
-    },
-    light: Rgb {
-        r: 0x2e,
-        g: 0x7f,
-        b: 0x41,
-    },
+    dark: rgb!(0x4e, 0xbf, 0x71),
+    light: rgb!(0x2e, 0x7f, 0x41),
 };
 
 pub const WARNING: Tones = Tones {
-    dark: Rgb {
-        r: 0xff,
-        g: 0xa6,
-        b: 0x2b,
-    },
-    light: Rgb {
-        r: 0x9f,
-        g: 0x60,
-        b: 0x00,
-    },
+    dark: rgb!(0xff, 0xa6, 0x2b),
+    light: rgb!(0x9f, 0x60, 0x00),
 };
 
 /// The predefined variable of this name, which is written without the `$`. None exactly where no

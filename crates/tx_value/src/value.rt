@@ -2,10 +2,9 @@
 ghost use Rattle.std.specs.Prelude.{◌≡◌, IfOk};
 
 use crate::theme::ThemeName;
-use std::marker::Model;
 use tx_frac::Scalar;
-use tx_geom::{BorderKind, Colour, Rgb};
-use tx_tree::{Name, Names, NoMemory};
+use tx_geom::{BorderKind, Colour, Rgb, TextStyle};
+use tx_text::{Items, Name, Names, NoMemory};
 
 /// A keyword.
 #[derive(Clone, Copy, Debug, PartialEq, Eq)]
@@ -30,17 +29,6 @@ pub enum Word {
     Middle,
 }
 
-/// What a text is marked with, beside its colours.
-#[derive(Clone, Copy, Debug, PartialEq, Eq)]
-pub struct Marks {
-    pub bold: bool,
-    pub dim: bool,
-    pub italic: bool,
-    pub underline: bool,
-    pub reverse: bool,
-    pub strike: bool,
-}
-
 /// A colour, or one that the theme gives. Its alpha is the percentage, from 0 to 100, in which it
 /// covers what lies under it.
 #[derive(Clone, Copy, Debug, PartialEq, Eq)]
@@ -56,44 +44,8 @@ pub enum Hue {
     Themed(ThemeName),
 }
 
-/// Sizes in their order, seen as a list.
-#[derive(Debug, Drop)]
-pub struct Sizes {
-    items: Vec<Scalar>,
-}
-
-impl Model for Sizes {
-    ghost use Rattle.std.specs.Prelude.{List};
-    ghost use Rattle.tx_frac.specs.declared.scalars.Scalar.{Scalar};
-
-    ghost Value = { List Scalar };
-
-    ghost view = { λ s. s.items.items };
-}
-
-impl Sizes {
-    /// The list of these sizes. It takes no memory.
-    pub fn of(items: Vec<Scalar>) -> Sizes
-        ensures { result ≡ items.items }
-    {
-        Sizes { items }
-    }
-
-    /// The sizes.
-    pub fn as_slice(&self) -> &[Scalar]
-        ensures { result.now ≡ self.now }
-    {
-        self.items.as_slice()
-    }
-
-    /// A second list that equals this one.
-    pub fn copy(&self) -> Result<Sizes, NoMemory>
-        ensures { IfOk result (λ s. s ≡ self.now) }
-    {
-        let items = self.items.clone()?;
-        Ok(Sizes { items })
-    }
-}
+/// Sizes in their order.
+pub type Sizes = Items<Scalar>;
 
 /// A value of a property.
 #[derive(Debug, Drop)]
@@ -120,7 +72,7 @@ pub enum Value {
     /// A colour.
     Ink(Ink),
     /// The marks of a text.
-    Marks(Marks),
+    Marks(TextStyle),
     /// What the default sheet gives the row for the property, or else the property's initial value.
     Initial,
 }

@@ -1,26 +1,27 @@
 //! The values of each property. Spaces and comments are left out before.
-ghost use Rattle.std.specs.Prelude.{◌≡◌, Some, option_map};
+ghost use Rattle.std.specs.Prelude.{◌≡◌};
 ghost use Rattle.tx_lex.specs.Lexemes.{lexeme, lexemes};
 ghost use Rattle.tx_value.specs.Names.{name_in};
-ghost use Rattle.tx_value.specs.Numbers.{scalar_of, whole_of_token};
-ghost use Rattle.tx_value.specs.Values.{word, size, limit, whole, border_kind, optional_colour, edge, drawn, border, ink, either, mark_of, marks_of, is_nothing, text_style, with_rows, grid_size, each, tracks, pair, cells, gutter, offset, spelled_name, name_of, layers, layer, value_of, GivesValue, GivesItems};
+ghost use Rattle.tx_value.specs.Numbers.{scalar_of};
+ghost use Rattle.tx_value.specs.Answers.{GivesSome};
+ghost use Rattle.tx_value.specs.Values.{word, size, limit, whole, border_kind, optional_colour, drawn, border, ink, mark_of, marks_of, text_style, grid_size, each, tracks, pair, cells, gutter, offset, name_of, layers, layer, value_of};
 
 use crate::colours::colour;
 use crate::fault::ValueFault;
-use crate::names::{entry, is_one_of, word_of};
+use crate::names::{is_only, is_word, word_of};
 use crate::numbers::{limit_of, scalar_of, signed_of, size_of, whole_of};
 use crate::property::Property;
 use crate::tables::{
-    BORDERS, BOX_SIZINGS, DISPLAYS, DOCKS, LAYOUTS, MARKS, NO_MARKS, NOTHINGS, OVERFLOWS,
-    PLACES_ACROSS, PLACES_DOWN, VISIBILITIES,
+    BORDERS, BOX_SIZINGS, DISPLAYS, DOCKS, LAYOUTS, MARKS, NONE, OVERFLOWS, PLACES_ACROSS,
+    PLACES_DOWN, VISIBILITIES,
 };
-use crate::value::{Ink, Marks, Sizes, Value, Word};
+use crate::value::{Ink, Sizes, Value, Word};
 use std::alloc::Global;
-use std::str;
 use tx_frac::Scalar;
-use tx_geom::BorderKind;
+use tx_geom::{BorderKind, TextStyle};
 use tx_lex::{Token, token_bytes};
-use tx_tree::{Name, Names};
+use tx_read::entry;
+use tx_text::{Name, Names};
 
 /// One of some keywords.
 fn word(choices: &[Word], text: &[u8], parts: &[Token]) -> Option<Value>
@@ -29,10 +30,7 @@ fn word(choices: &[Word], text: &[u8], parts: &[Token]) -> Option<Value>
     let [only] = parts else {
         return None;
     };
-    match word_of(choices, text, *only) {
-        Some(word) => Some(Value::Word(word)),
-        None => None,
-    }
+    Some(Value::Word(word_of(choices, text, *only)?))
 }
 
 /// A size.
@@ -42,10 +40,7 @@ fn size(text: &[u8], parts: &[Token]) -> Option<Value>
     let [only] = parts else {
         return None;
     };
-    match size_of(text, *only) {
-        Some(size) => Some(Value::Size(size)),
-        None => None,
-    }
+    Some(Value::Size(size_of(text, *only)?))
 }
 
 /// `none`, or a size without `fr` and `auto`.
@@ -55,13 +50,10 @@ fn limit(text: &[u8], parts: &[Token]) -> Option<Value>
     let [only] = parts else {
         return None;
     };
-    if is_one_of(&NOTHINGS, text, *only) {
+    if is_word(NONE, text, *only) {
         return Some(Value::Word(Word::Nothing));
     }
-    match limit_of(text, *only) {
-        Some(size) => Some(Value::Size(size)),
-        None => None,
-    }
+    Some(Value::Size(limit_of(text, *only)?))
 }
 
 /// A whole number from one number to another.
@@ -71,10 +63,7 @@ fn whole(least: u32, most: u32, text: &[u8], parts: &[Token]) -> Option<Value>
     let [only] = parts else {
         return None;
     };
-    match whole_of(least, most, text, *only) {
-        Some(number) => Some(Value::Whole(number)),
-        None => None,
-    }
+    Some(Value::Whole(whole_of(least, most, text, *only)?))
 }
 
 /// The kind of a border of this name, or that there is none.
@@ -102,31 +91,11 @@ fn optional_colour(text: &[u8], parts: &[Token]) -> Option<Option<Ink>>
     if parts.is_empty() {
         return Some(None);
     }
-    match colour(text, parts) {
-        Some(ink) => Some(Some(ink)),
-        None => None,
-    }
-}
-
-/// A kind of border or none, and an optional colour.
-#[tactic(auto, unfolding(crate::specs::Values::edge))]
-pub fn edge(text: &[u8], parts: &[Token]) -> Option<(Option<BorderKind>, Option<Ink>)>
-    ensures { result ≡ edge (lexemes text.now parts.now) }
-{
-    let [first, rest @ ..] = parts else {
-        return None;
-    };
-    let Some(kind) = border_kind_of(text, *first) else {
-        return None;
-    };
-    match optional_colour(text, rest) {
-        Some(ink) => Some((kind, ink)),
-        None => None,
-    }
+    Some(Some(colour(text, parts)?))
 }
 
 /// The value that these are; `none` is no border.
-pub fn drawn(kind: Option<BorderKind>, ink: Option<Ink>) -> Value
+fn drawn(kind: Option<BorderKind>, ink: Option<Ink>) -> Value
     ensures { result ≡ drawn kind ink }
 {
     match kind {
@@ -135,48 +104,34 @@ pub fn drawn(kind: Option<BorderKind>, ink: Option<Ink>) -> Value
     }
 }
 
-/// A kind and an optional colour.
+/// A kind of border or `none`, and an optional colour.
+#[tactic(auto, unfolding(crate::specs::Values::border))]
 fn border(text: &[u8], parts: &[Token]) -> Option<Value>
     ensures { result ≡ border (lexemes text.now parts.now) }
 {
-    match edge(text, parts) {
-        Some(edge) => Some(drawn(edge.0, edge.1)),
-        None => None,
-    }
+    let [first, rest @ ..] = parts else {
+        return None;
+    };
+    let kind = border_kind_of(text, *first)?;
+    let ink = optional_colour(text, rest)?;
+    Some(drawn(kind, ink))
 }
 
 /// A colour.
 fn ink(text: &[u8], parts: &[Token]) -> Option<Value>
     ensures { result ≡ ink (lexemes text.now parts.now) }
 {
-    match colour(text, parts) {
-        Some(ink) => Some(Value::Ink(ink)),
-        None => None,
-    }
-}
-
-/// What has one of two marks or both.
-fn either(a: Marks, b: Marks) -> Marks
-    ensures { result ≡ either a b }
-{
-    Marks {
-        bold: a.bold || b.bold,
-        dim: a.dim || b.dim,
-        italic: a.italic || b.italic,
-        underline: a.underline || b.underline,
-        reverse: a.reverse || b.reverse,
-        strike: a.strike || b.strike,
-    }
+    Some(Value::Ink(colour(text, parts)?))
 }
 
 #[tactic(auto, unfolding(crate::specs::Values::mark_of))]
-fn mark_of(name: &[u8]) -> Option<Marks>
+fn mark_of(name: &[u8]) -> Option<TextStyle>
     ensures { result ≡ mark_of name.now }
 {
     entry(&MARKS, name)
 }
 
-fn mark_in(text: &[u8], token: Token) -> Option<Marks>
+fn mark_in(text: &[u8], token: Token) -> Option<TextStyle>
     ensures { result ≡ name_in mark_of (lexeme text.now token) }
 {
     if token.kind.is_name() {
@@ -187,26 +142,14 @@ fn mark_in(text: &[u8], token: Token) -> Option<Marks>
 }
 
 /// The marks of all tokens.
-fn marks_of(text: &[u8], parts: &[Token]) -> Option<Marks>
+fn marks_of(text: &[u8], parts: &[Token]) -> Option<TextStyle>
     ensures { result ≡ marks_of (lexemes text.now parts.now) }
 {
-    let mut marks = NO_MARKS;
+    let mut marks = TextStyle::PLAIN;
     for part in parts {
-        let Some(mark) = mark_in(text, *part) else {
-            return None;
-        };
-        marks = either(marks, mark);
+        marks = marks.with(mark_in(text, *part)?);
     }
     Some(marks)
-}
-
-fn is_nothing(text: &[u8], parts: &[Token]) -> bool
-    ensures { result ≡ is_nothing (lexemes text.now parts.now) }
-{
-    match parts {
-        [only] => is_one_of(&NOTHINGS, text, *only),
-        _ => false,
-    }
 }
 
 /// `none`, or one or more marks.
@@ -217,35 +160,10 @@ fn text_style(text: &[u8], parts: &[Token]) -> Option<Value>
     if parts.is_empty() {
         return None;
     }
-    if is_nothing(text, parts) {
-        return Some(Value::Marks(NO_MARKS));
+    if is_only(NONE, text, parts) {
+        return Some(Value::Marks(TextStyle::PLAIN));
     }
-    match marks_of(text, parts) {
-        Some(marks) => Some(Value::Marks(marks)),
-        None => None,
-    }
-}
-
-/// The rows of a grid.
-fn rows_of(text: &[u8], token: Token) -> Option<Option<u32>>
-    ensures { result ≡ option_map (λ n. Some n) (whole_of_token 1 1000 (lexeme text.now token)) }
-{
-    match whole_of(1, 1000, text, token) {
-        Some(rows) => Some(Some(rows)),
-        None => None,
-    }
-}
-
-fn with_rows(columns: Option<u32>, rows: Option<Option<u32>>) -> Option<Value>
-    ensures { result ≡ with_rows columns rows }
-{
-    let Some(columns) = columns else {
-        return None;
-    };
-    match rows {
-        Some(rows) => Some(Value::GridSize { columns, rows }),
-        None => None,
-    }
+    Some(Value::Marks(marks_of(text, parts)?))
 }
 
 /// Columns, and rows where they are given.
@@ -254,8 +172,14 @@ fn grid_size(text: &[u8], parts: &[Token]) -> Option<Value>
     ensures { result ≡ grid_size (lexemes text.now parts.now) }
 {
     match parts {
-        [columns] => with_rows(whole_of(1, 100, text, *columns), Some(None)),
-        [columns, rows] => with_rows(whole_of(1, 100, text, *columns), rows_of(text, *rows)),
+        [columns] => Some(Value::GridSize {
+            columns: whole_of(1, 100, text, *columns)?,
+            rows: None,
+        }),
+        [columns, rows] => Some(Value::GridSize {
+            columns: whole_of(1, 100, text, *columns)?,
+            rows: Some(whole_of(1, 1000, text, *rows)?),
+        }),
         _ => None,
     }
 }
@@ -263,22 +187,13 @@ fn grid_size(text: &[u8], parts: &[Token]) -> Option<Value>
 fn pair(first: Option<i32>, second: Option<i32>) -> Option<Value>
     ensures { result ≡ pair first second }
 {
-    let Some(first) = first else {
-        return None;
-    };
-    match second {
-        Some(second) => Some(Value::Pair(first, second)),
-        None => None,
-    }
+    Some(Value::Pair(first?, second?))
 }
 
 fn cells(text: &[u8], token: Token) -> Option<i32>
     ensures { result ≡ cells (lexeme text.now token) }
 {
-    match whole_of(0, 9999, text, token) {
-        Some(number) => Some(number as i32),
-        None => None,
-    }
+    Some(whole_of(0, 9999, text, token)? as i32)
 }
 
 /// One number for both, or vertical and horizontal.
@@ -304,41 +219,29 @@ fn offset(text: &[u8], parts: &[Token]) -> Option<Value>
     }
 }
 
-/// The name that these bytes spell, of at most 64.
-fn spelled_name(bytes: &[u8]) -> Option<Name>
-    ensures { result ≡ spelled_name bytes.now }
-{
-    match str::from_utf8(bytes) {
-        Ok(name) => Name::of(name),
-        Err(_) => None,
-    }
-}
-
 fn name_of(text: &[u8], token: Token) -> Option<Name>
     ensures { result ≡ name_of (lexeme text.now token) }
 {
     if token.kind.is_name() {
-        spelled_name(token_bytes(text, token))
+        Name::of_bytes(token_bytes(text, token))
     } else {
         None
     }
 }
 
+/// A name.
 fn layer(text: &[u8], parts: &[Token]) -> Option<Value>
     ensures { result ≡ layer (lexemes text.now parts.now) }
 {
     let [only] = parts else {
         return None;
     };
-    match name_of(text, *only) {
-        Some(name) => Some(Value::Layer(name)),
-        None => None,
-    }
+    Some(Value::Layer(name_of(text, *only)?))
 }
 
 /// The sizes of some tokens, where all are sizes.
 fn sizes_of(alloc: Global, text: &[u8], parts: &[Token]) -> Result<Vec<Scalar>, ValueFault>
-    ensures { GivesItems result (each scalar_of (lexemes text.now parts.now)) }
+    ensures { GivesSome (λ v. v.items) result (each scalar_of (lexemes text.now parts.now)) }
 {
     let mut sizes = Vec::new(alloc);
     for part in parts {
@@ -354,20 +257,18 @@ fn sizes_of(alloc: Global, text: &[u8], parts: &[Token]) -> Result<Vec<Scalar>, 
 
 /// The sizes of 1 to 60 columns or rows.
 fn tracks(alloc: Global, text: &[u8], parts: &[Token]) -> Result<Value, ValueFault>
-    ensures { GivesValue result (tracks (lexemes text.now parts.now)) }
+    ensures { GivesSome (λ v. v) result (tracks (lexemes text.now parts.now)) }
 {
     if parts.is_empty() || parts.len() > 60 {
         return Err(ValueFault::BadValue);
     }
-    match sizes_of(alloc, text, parts) {
-        Ok(sizes) => Ok(Value::Sizes(Sizes::of(sizes))),
-        Err(fault) => Err(fault),
-    }
+    let sizes = sizes_of(alloc, text, parts)?;
+    Ok(Value::Sizes(Sizes::of(sizes)))
 }
 
 /// The names of some tokens, where all are names.
 fn names_of(alloc: Global, text: &[u8], parts: &[Token]) -> Result<Vec<Name>, ValueFault>
-    ensures { GivesItems result (each name_of (lexemes text.now parts.now)) }
+    ensures { GivesSome (λ v. v.items) result (each name_of (lexemes text.now parts.now)) }
 {
     let mut names = Vec::new(alloc);
     for part in parts {
@@ -383,20 +284,18 @@ fn names_of(alloc: Global, text: &[u8], parts: &[Token]) -> Result<Vec<Name>, Va
 
 /// 1 to 32 names.
 fn layers(alloc: Global, text: &[u8], parts: &[Token]) -> Result<Value, ValueFault>
-    ensures { GivesValue result (layers (lexemes text.now parts.now)) }
+    ensures { GivesSome (λ v. v) result (layers (lexemes text.now parts.now)) }
 {
     if parts.is_empty() || parts.len() > 32 {
         return Err(ValueFault::BadValue);
     }
-    match names_of(alloc, text, parts) {
-        Ok(names) => Ok(Value::Names(Names::of(names))),
-        Err(fault) => Err(fault),
-    }
+    let names = names_of(alloc, text, parts)?;
+    Ok(Value::Names(Names::of(names)))
 }
 
 /// The value, where there is one.
 fn given(value: Option<Value>) -> Result<Value, ValueFault>
-    ensures { GivesValue result value }
+    ensures { GivesSome (λ v. v) result value }
 {
     match value {
         Some(value) => Ok(value),
@@ -412,7 +311,7 @@ pub fn value_of(
     text: &[u8],
     parts: &[Token],
 ) -> Result<Value, ValueFault>
-    ensures { GivesValue result (value_of property (lexemes text.now parts.now)) }
+    ensures { GivesSome (λ v. v) result (value_of property (lexemes text.now parts.now)) }
 {
     match property {
         Property::Display => given(word(&DISPLAYS, text, parts)),

@@ -1,4 +1,4 @@
-use Rattle.tx_value.proofs.StyleLemmas.{styles_are_their_values, values_make_styles}
+use Rattle.tx_value.proofs.Styles.{styles_are_their_values, values_make_styles}
 use Rattle.tx_value.proofs.laws.styles_are_values.Goals as goal
 
 pub returns-clause-alone : goal.returns-clause-alone

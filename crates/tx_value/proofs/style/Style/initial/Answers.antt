@@ -2,7 +2,7 @@ use Rattle.std.proofs.Common.{List, ◌∙◌, ap}
 use Rattle.tx_value.specs.Initial.{initial}
 use Rattle.tx_value.specs.Style.{style_value}
 use Rattle.tx_value.specs.declared.value.Value.{Value}
-use Rattle.tx_value.proofs.StyleLemmas.{values_make_styles}
+use Rattle.tx_value.proofs.Styles.{values_make_styles}
 use Rattle.tx_value.proofs.style.Style.initial.Goals as goal
 
 pub returns-clause-each : goal.returns-clause-each
