@@ -1,15 +1,15 @@
 -- What is spelled is read again, the whole file.
+use Rattle.std.proofs.lemmas.Bool.{and_parts, and_from}
 use Rattle.std.proofs.Common.{fold, ◌≡◌, ℕ, zero, suc, ◌+◌, ◌*◌, ◌≤◌, ◌==◌, ◌&&◌, ◌||◌, Bool, true, false, cond, not, nat_le, List, [], ◌∷◌, ◌++◌, length, replicate, flat_map, Option, Some, None, Result, Ok, Err, refl, ap, ap₂, sym, subst, ◌∙◌, arith, append_assoc, append-nil, length-append, codes}
 use Rattle.std.specs.List.{list_all}
 use Rattle.std.specs.Option.{option_map_or}
 use Rattle.std.proofs.lemmas.Bool.{false≢true, ne_eqb}
 use Rattle.tx_read.specs.Pieces.{pieces, onto}
-use Rattle.tx_tree.proofs.NameBytes.{and-left, and-right}
 use Rattle.tx_tree.specs.Kind.{is_screen, holds_children}
 use Rattle.tx_tree.specs.Mount.{is_taken}
 use Rattle.tx_tree.specs.Row.{placed}
 use Rattle.tx_tree.specs.Rows.{last_above}
-use Rattle.tx_tree.specs.Name.{is_name}
+use Rattle.tx_text.specs.Name.{is_name}
 use Rattle.tx_tree.specs.Spelled.{is_spelled, key_is_spelled, no_line_feed, private_is_spelled}
 use Rattle.tx_tree.specs.WellFormed.{MayFollow, MayAllFollow, IsPreorder}
 use Rattle.tx_tree.specs.TreeValue.{TreeValue}
@@ -20,7 +20,6 @@ use Rattle.tx_tree.specs.declared.fault.TreeKind.{TreeKind}
 use Rattle.tx_tree.specs.declared.fault.TreeKind.TheVariants.{BadByte, BadIndent, Expected}
 use Rattle.tx_tree.specs.declared.row.NewRow.{NewRow}
 use Rattle.tx_tree.specs.declared.row.Row.{Row}
-use Rattle.tx_tree_file.proofs.FoundParts.{both}
 use Rattle.tx_tree_file.proofs.LastRows.{ok-same}
 use Rattle.tx_tree_file.specs.FirstFault.{line_count, ids_differ, is_held, IsBegun}
 use Rattle.tx_tree_file.proofs.AgainLines.{encode-all, row-utf8, HasParts, has-parts, row-begins, blanks-again, row-again, row_line-again, bind_line-again, new_of}
@@ -38,10 +37,9 @@ use Rattle.std.proofs.Common.{◌<◌, ◌≢◌, nat_lt}
 use Rattle.tx_tree_file.proofs.Fronts.{same-byte}
 use Rattle.std.proofs.lemmas.Bool.Decides.{nat_tests, Decides-eqb}
 use Rattle.std.proofs.lemmas.Str.{is_utf8-from_IsUtf8}
-use Rattle.tx_tree.proofs.Ids.{id_from_test}
-use Rattle.tx_tree.proofs.RowLists.{count_of-append, row_at-skip}
+use Rattle.tx_tree.proofs.lemmas.NumbersAndIds.{count_of-append, row_at-skip, id_from_test}
 use Rattle.tx_tree.specs.Kind.{kind_name}
-use Rattle.tx_tree.specs.Name.{begins_name, continues_name}
+use Rattle.tx_text.specs.Name.{begins_name, continues_name}
 use Rattle.tx_tree.specs.Rows.{row_at, count_of, has_id}
 use Rattle.tx_tree.specs.Row.{has_number}
 use Rattle.tx_tree.specs.WellFormed.{IsTree, id_of}
@@ -68,7 +66,7 @@ Free bytes = list_all no_line_feed bytes ≡ true
 
 and-free : (xs ys : List ℕ) → Free xs → Free ys → Free (xs ++ ys)
 and-free [] ys h g = g
-and-free (b ∷ xs) ys h g = both (no_line_feed b) (list_all no_line_feed (xs ++ ys)) (and-left _ _ h) (and-free xs ys (and-right (no_line_feed b) _ h) g)
+and-free (b ∷ xs) ys h g = and_from (no_line_feed b) (list_all no_line_feed (xs ++ ys)) (and_parts _ _ h).0 (and-free xs ys (and_parts (no_line_feed b) _ h).1 g)
 
 begins-free : (b : ℕ) → begins_name b ≡ true → no_line_feed b ≡ true
 begins-free b h = grind (arith, nat_tests)
@@ -78,18 +76,18 @@ continues-free b h = grind (arith, nat_tests)
 
 rest-free : (bytes : List ℕ) → list_all continues_name bytes ≡ true → Free bytes
 rest-free [] h = refl
-rest-free (b ∷ bytes) h = both (no_line_feed b) (list_all no_line_feed bytes) (continues-free b (and-left _ _ h)) (rest-free bytes (and-right (continues_name b) _ h))
+rest-free (b ∷ bytes) h = and_from (no_line_feed b) (list_all no_line_feed bytes) (continues-free b (and_parts _ _ h).0) (rest-free bytes (and_parts (continues_name b) _ h).1)
 
 name-free : (name : List ℕ) → is_name name ≡ true → Free name
 name-free [] h = refl
-name-free (b ∷ bytes) h = both (no_line_feed b) (list_all no_line_feed bytes) (begins-free b (and-left _ _ h)) (rest-free bytes (and-right _ _ (and-right (begins_name b) _ h)))
+name-free (b ∷ bytes) h = and_from (no_line_feed b) (list_all no_line_feed bytes) (begins-free b (and_parts _ _ h).0) (rest-free bytes (and_parts _ _ (and_parts (begins_name b) _ h).1).1)
 
 digit-free : (d : ℕ) → is_ascii_digit d ≡ true → no_line_feed d ≡ true
 digit-free d h = grind (arith, nat_tests)
 
 digits-free : (ds : List ℕ) → list_all is_ascii_digit ds ≡ true → Free ds
 digits-free [] h = refl
-digits-free (d ∷ ds) h = both (no_line_feed d) (list_all no_line_feed ds) (digit-free d (and-left _ _ h)) (digits-free ds (and-right (is_ascii_digit d) _ h))
+digits-free (d ∷ ds) h = and_from (no_line_feed d) (list_all no_line_feed ds) (digit-free d (and_parts _ _ h).0) (digits-free ds (and_parts (is_ascii_digit d) _ h).1)
 
 blanks-free : (n : ℕ) → Free (replicate n 32)
 blanks-free zero = refl
@@ -119,7 +117,7 @@ id-free (Some id) h = name-free id h
 
 classes-free : (names : List (List ℕ)) → list_all is_name names ≡ true → Free (class_parts names)
 classes-free [] h = refl
-classes-free (name ∷ names) h = and-free (class_part name) (class_parts names) (name-free name (and-left _ _ h)) (classes-free names (and-right (is_name name) _ h))
+classes-free (name ∷ names) h = and-free (class_part name) (class_parts names) (name-free name (and_parts _ _ h).0) (classes-free names (and_parts (is_name name) _ h).1)
 
 disabled-free : (b : Bool) → Free (disabled_part b)
 disabled-free true = refl
@@ -135,7 +133,7 @@ private-free kind (On false) h = refl
 private-free kind Plain h = refl
 private-free kind (Cursor place) h = refl
 private-free kind (Chosen line) h = refl
-private-free ProgressBar (Bar done total) h = total-free (total == 100) total (leb-true total 1000000 (and-right (nat_le 1 total) _ h))
+private-free ProgressBar (Bar done total) h = total-free (total == 100) total (leb-true total 1000000 (and_parts (nat_le 1 total) _ h).1)
 private-free Screen (Bar done total) h = absurd (false≢true h)
 private-free Container (Bar done total) h = absurd (false≢true h)
 private-free Vertical (Bar done total) h = absurd (false≢true h)
@@ -159,7 +157,7 @@ escaped-free b = by (b == 34) (b == 92) (b == 10) refl
     by true y z e = refl
     by false true z e = refl
     by false false true e = refl
-    by false false false e = both (no_line_feed b) true (ap not e) refl
+    by false false false e = and_from (no_line_feed b) true (ap not e) refl
 
 all_escaped-free : (text : List ℕ) → Free (flat_map escaped text)
 all_escaped-free [] = refl
@@ -192,9 +190,9 @@ key-free (Char c) h = by (c == 32)
   where
     by : (b : Bool) → Free (cond b (codes "space") (encode_utf8 c))
     by true = refl
-    by false = char-free c (and-left (nat_le 32 c) _ h)
-key-free (Function n) h = let most = leb-true n 12 (and-right (nat_le 1 n) _ h) in digits-free (decimal n) (decimal-digits n (omega (arith, most))).0
-key-free (Ctrl b) h = both (no_line_feed b) true (letter-free b h) refl
+    by false = char-free c (and_parts (nat_le 32 c) _ h).0
+key-free (Function n) h = let most = leb-true n 12 (and_parts (nat_le 1 n) _ h).1 in digits-free (decimal n) (decimal-digits n (omega (arith, most))).0
+key-free (Ctrl b) h = and_from (no_line_feed b) true (letter-free b h) refl
 key-free Enter h = refl
 key-free Escape h = refl
 key-free Tab h = refl
@@ -229,15 +227,15 @@ priority-free false = refl
 bind-free : (depth : ℕ) (bind : Bind) → key_is_spelled bind.key ≡ true → bind_is_typed bind ≡ true → Free (indent (depth + 1) ++ bind_text bind)
 bind-free depth bind h t =
     and-free (indent (depth + 1)) (bind_text bind) (blanks-free (2 * (depth + 1))) (and-free (priority_part bind.priority) _ (priority-free bind.priority)
-    (and-free (key_name bind.key) _ (key-free bind.key h) (action-free bind.action (and-right (key_is_typed bind.key) _ t))))
+    (and-free (key_name bind.key) _ (key-free bind.key h) (action-free bind.action (and_parts (key_is_typed bind.key) _ t).1)))
 
 -- ---- a line is cut off at its line feed
 
 pub cut-again : (line rest : List ℕ) → Free line → pieces 10 (line ++ (10 ∷ rest)) ≡ line ∷ pieces 10 rest
 cut-again [] rest h = refl
 cut-again (b ∷ line) rest h =
-    let other : (b == 10) ≡ false = by (b == 10) (and-left (no_line_feed b) _ h) in
-    ap (λ (x : Bool). cond x ([] ∷ pieces 10 (line ++ (10 ∷ rest))) (onto b (pieces 10 (line ++ (10 ∷ rest))))) other ∙ ap (onto b) (cut-again line rest (and-right (no_line_feed b) _ h))
+    let other : (b == 10) ≡ false = by (b == 10) (and_parts (no_line_feed b) _ h).0 in
+    ap (λ (x : Bool). cond x ([] ∷ pieces 10 (line ++ (10 ∷ rest))) (onto b (pieces 10 (line ++ (10 ∷ rest))))) other ∙ ap (onto b) (cut-again line rest (and_parts (no_line_feed b) _ h).1)
   where
     by : (x : Bool) → not x ≡ true → x ≡ false
     by true g = absurd (false≢true g)
@@ -256,8 +254,8 @@ binds-again : (binds : List Bind) (rest : List ℕ) (done : ℕ) (before : List 
 binds-again [] rest done before last h t =
     ap₂ (λ (n : ℕ) (z : Row). rows_behind (pieces 10 rest) n (record { before = before; last = z })) (omega arith) (sym (no_binds last))
 binds-again (bind ∷ binds) rest done before last h t =
-    let spelled = and-left (key_is_spelled bind.key) _ h in
-    let typed = and-left (bind_is_typed bind) _ t in
+    let spelled = (and_parts (key_is_spelled bind.key) _ h).0 in
+    let typed = (and_parts (bind_is_typed bind) _ t).0 in
     let line = indent (last.depth + 1) ++ bind_text bind in
     let more = flat_map (bind_line last.depth) binds ++ rest in
     let text : (bind_line last.depth bind ++ flat_map (bind_line last.depth) binds) ++ rest ≡ line ++ (10 ∷ more) =
@@ -267,7 +265,7 @@ binds-again (bind ∷ binds) rest done before last h t =
     let number : done + 1 + length binds ≡ done + length (bind ∷ binds) = omega arith in
     ap (λ (z : List ℕ). rows_behind (pieces 10 z) done (record { before = before; last = last })) text
     ∙ bind_line_read (line ++ (10 ∷ more)) line more done before last bind (cut-again line more (bind-free last.depth bind spelled typed)) (bind_line-again last.depth bind spelled typed)
-    ∙ binds-again binds rest (done + 1) before (with_bind bind last) (and-right (key_is_spelled bind.key) _ h) (and-right (bind_is_typed bind) _ t)
+    ∙ binds-again binds rest (done + 1) before (with_bind bind last) (and_parts (key_is_spelled bind.key) _ h).1 (and_parts (bind_is_typed bind) _ t).1
     ∙ ap₂ (λ (n : ℕ) (z : Row). rows_behind (pieces 10 rest) n (record { before = before; last = z })) number (more_binds bind binds last)
 
 -- ---- rows
@@ -361,7 +359,7 @@ rows-reached [] tail done before last follow deep typed spelled fresh ids few he
 }
 rows-reached (row ∷ rows) tail done before last follow deep typed spelled fresh ids few held =
     let so_far = before ++ last ∷ [] in
-    let parts = has-parts row (and-left _ _ typed) (and-left _ _ spelled) in
+    let parts = has-parts row (and_parts _ _ typed).0 (and_parts _ _ spelled).0 in
     let f = follow.0 in
     let line = indent row.depth ++ row_text row in
     let more = flat_map (bind_line row.depth) row.binds ++ (spelling rows ++ tail) in
@@ -377,8 +375,8 @@ rows-reached (row ∷ rows) tail done before last follow deep typed spelled fres
     let step = f.step in
     let shallow = f.shallow in
     let count = count-cons row rows in
-    let there = rows-reached rows tail (done + 1 + length row.binds) so_far row follow.1 shallow (and-right (is_typed row) _ typed) (and-right (is_spelled row) _ spelled)
-    (rest ∙ ap (λ (n : ℕ). read_again n rows) (omega (arith, size))) (and-right (not (is_taken row.id so_far)) _ ids) (omega (arith, size, few)) (held-more so_far row (held-next before last row held f)) in
+    let there = rows-reached rows tail (done + 1 + length row.binds) so_far row follow.1 shallow (and_parts (is_typed row) _ typed).1 (and_parts (is_spelled row) _ spelled).1
+    (rest ∙ ap (λ (n : ℕ). read_again n rows) (omega (arith, size))) (and_parts (not (is_taken row.id so_far)) _ ids).1 (omega (arith, size, few)) (held-more so_far row (held-next before last row held f)) in
     record {
       next = there.next;
       is = there.is ∙ append_assoc so_far (row ∷ []) rows;
@@ -386,7 +384,7 @@ rows-reached (row ∷ rows) tail done before last follow deep typed spelled fres
       read = ap (λ (z : List ℕ). rows_behind (pieces 10 z) done (record { before = before; last = last })) text
           ∙ row_line_read (line ++ (10 ∷ more)) line more done row.depth before last (new_of row) (cut-again line more (row-free row parts)) (row_line-again last.depth row.depth row parts f.no_screen below shallow step)
           ∙ ap (λ (r : Result Begun TreeKind). or_fault (done + 1) r (rows_behind (pieces 10 more) (done + 1))) (with_new-again so_far row.depth (new_of row) (held-here before last row held f)
-          (ne_eqb (length so_far) 65536 (λ full. absurd (omega (arith, full, size, few)))) (not_inv (is_taken row.id so_far) (and-left _ _ ids)))
+          (ne_eqb (length so_far) 65536 (λ full. absurd (omega (arith, full, size, few)))) (not_inv (is_taken row.id so_far) (and_parts _ _ ids).0))
           ∙ binds-again row.binds (spelling rows ++ tail) (done + 1) so_far (placed (new_of row) (length so_far + 1) row.depth) parts.binds_spelled parts.binds_typed
           ∙ ap (λ (z : Row). rows_behind (pieces 10 (spelling rows ++ tail)) (done + 1 + length row.binds) (record { before = so_far; last = z })) (row-whole (length so_far + 1) row (same ∙ ap (λ (n : ℕ). read_row n row) number))
           ∙ there.read
@@ -416,7 +414,7 @@ pub record IsReached (tail : List ℕ) (rows : List Row) : Type 0 where
 pub file-reached : (rows : List Row) (tail : List ℕ) → IsBegun rows → IsPreorder rows → IsReached tail rows
 file-reached [] tail h p = absurd p
 file-reached (row ∷ rows) tail h p =
-    let parts = has-parts row (and-left _ _ h.typed) (and-left _ _ h.spelled) in
+    let parts = has-parts row (and_parts _ _ h.typed).0 (and_parts _ _ h.spelled).0 in
     let first = p.0 in
     let more = flat_map (bind_line row.depth) row.binds ++ (spelling rows ++ tail) in
     let flat : indent row.depth ≡ [] = ap indent first.depth in
@@ -429,8 +427,8 @@ file-reached (row ∷ rows) tail h p =
     let (same, rest) = again-head 1 row rows h.fresh in
     let few = h.few in
     let count = count-cons row rows in
-    let there = rows-reached rows tail (1 + length row.binds) [] row p.1 (let d = first.depth in omega (arith, d)) (and-right (is_typed row) _ h.typed) (and-right (is_spelled row) _ h.spelled) rest
-    (and-right (not (is_taken row.id [])) _ h.ids) (omega (arith, few)) (λ d below few. absurd (let flat2 = first.depth in omega (arith, below, few, flat2))) in
+    let there = rows-reached rows tail (1 + length row.binds) [] row p.1 (let d = first.depth in omega (arith, d)) (and_parts (is_typed row) _ h.typed).1 (and_parts (is_spelled row) _ h.spelled).1 rest
+    (and_parts (not (is_taken row.id [])) _ h.ids).1 (omega (arith, few)) (λ d below few. absurd (let flat2 = first.depth in omega (arith, below, few, flat2))) in
     record {
       next = there.next;
       is = there.is;
@@ -498,7 +496,7 @@ not_taken all before row rows is once ids (Some name) e true g =
 pub ids-of : (all before rows : List Row) → all ≡ before ++ rows → Once all → OneId all → ids_differ before rows ≡ true
 ids-of all before [] is once ids = refl
 ids-of all before (row ∷ rows) is once ids =
-    both _ _ (ap not (not_taken all before row rows is once ids row.id refl (is_taken row.id before) refl))
+    and_from _ _ (ap not (not_taken all before row rows is once ids row.id refl (is_taken row.id before) refl))
     (ids-of all (before ++ row ∷ []) rows (is ∙ sym (append_assoc before (row ∷ []) rows)) once ids)
 
 -- what is spelled so is read, as those rows
@@ -617,7 +615,7 @@ line-same n row t s =
     let parts = has-parts row t s in
     let (part, spelled, twice) = kept-part row.kind (length row.text) row.private parts.private_spelled in (
       ap (λ (z : List ℕ). (indent row.depth ++ ((kind_name row.kind ++ (id_part row.id ++ (class_parts row.classes.names ++ (disabled_part row.disabled ++ (z ++ (text_part row.text ++ inline_part row.inline)))))) ++ codes "\n")) ++ flat_map (bind_line row.depth) row.binds) part,
-      both _ _ parts.once (both _ _ parts.kind_spelled (both _ _ parts.text_spelled (both _ _ parts.inline_spelled (both _ _ parts.binds_spelled spelled)))),
+      and_from _ _ parts.once (and_from _ _ parts.kind_spelled (and_from _ _ parts.text_spelled (and_from _ _ parts.inline_spelled (and_from _ _ parts.binds_spelled spelled)))),
       ap (λ (p : Private). record (read_row n row) { private = p }) twice,
     )
 
@@ -633,11 +631,11 @@ pub record IsRead (n : ℕ) (rows : List Row) : Type 0 where
 is-read : (n : ℕ) (rows : List Row) → list_all is_typed rows ≡ true → list_all is_spelled rows ≡ true → IsRead n rows
 is-read n [] t s = record { typed = refl; spelled = refl; text = refl; fresh = refl; size = refl; names = refl }
 is-read n (row ∷ rows) t s =
-    let (line, spelled, twice) = line-same n row (and-left _ _ t) (and-left _ _ s) in
-    let more = is-read (n + 1) rows (and-right (is_typed row) _ t) (and-right (is_spelled row) _ s) in
+    let (line, spelled, twice) = line-same n row (and_parts _ _ t).0 (and_parts _ _ s).0 in
+    let more = is-read (n + 1) rows (and_parts (is_typed row) _ t).1 (and_parts (is_spelled row) _ s).1 in
     record {
-      typed = both _ _ (and-left _ _ t) more.typed;
-      spelled = both _ _ spelled more.spelled;
+      typed = and_from _ _ (and_parts _ _ t).0 more.typed;
+      spelled = and_from _ _ spelled more.spelled;
       text = ap₂ (λ (x y : List ℕ). x ++ y) line more.text;
       fresh = ap₂ (λ (x : Row) (xs : List Row). x ∷ xs) (sym twice) more.fresh;
       size = ap suc more.size;
@@ -660,8 +658,8 @@ ids-map (y ∷ xs) x = ap (λ z. y.id ∷ z) (ids-map xs x)
 ids-same : (n : ℕ) (xs ys rows : List Row) → map (λ row. row.id) xs ≡ map (λ row. row.id) ys → ids_differ ys rows ≡ true → ids_differ xs (read_again n rows) ≡ true
 ids-same n xs ys [] e h = refl
 ids-same n xs ys (row ∷ rows) e h =
-    both _ _ (ap not (taken-same row.id xs ys e) ∙ and-left _ _ h)
-    (ids-same (n + 1) (xs ++ read_row n row ∷ []) (ys ++ row ∷ []) rows (ids-map xs (read_row n row) ∙ ap (λ z. z ++ row.id ∷ []) e ∙ sym (ids-map ys row)) (and-right (not (is_taken row.id ys)) _ h))
+    and_from _ _ (ap not (taken-same row.id xs ys e) ∙ (and_parts _ _ h).0)
+    (ids-same (n + 1) (xs ++ read_row n row ∷ []) (ys ++ row ∷ []) rows (ids-map xs (read_row n row) ∙ ap (λ z. z ++ row.id ∷ []) e ∙ sym (ids-map ys row)) (and_parts (not (is_taken row.id ys)) _ h).1)
 
 follow-same : (n m : ℕ) (last : Row) (rows : List Row) → MayAllFollow last rows → MayAllFollow (read_row n last) (read_again m rows)
 follow-same n m last [] h = tt

@@ -1,4 +1,5 @@
 -- What is spelled is read again, line by line.
+use Rattle.std.proofs.lemmas.Bool.{and_parts, and_from}
 use Rattle.std.proofs.Common.{◌≡◌, ℕ, zero, suc, ◌+◌, ◌*◌, ◌/◌, ◌%◌, ◌<◌, ◌≤◌, ◌==◌, ◌&&◌, ◌^◌, Bool, true, false, cond, not, nat_le, nat_lt, List, [], ◌∷◌, ◌++◌, length, drop, flat_map, find, Option, Some, None, option_map, option_and_then, refl, ap, ap₂, sym, subst, ◌∙◌, arith, append-nil, codes, decimal, chars, bytes_eq, encode_utf8, encode_utf8_all, IsUtf8, lit<}
 use Rattle.std.specs.Char.{is_ascii_digit, encode_utf8 as encode}
 use Rattle.std.specs.List.{list_all}
@@ -9,9 +10,8 @@ use Rattle.std.proofs.lemmas.Fmt.{decimal_nonempty}
 use Rattle.std.proofs.lemmas.Grind.{flat_map-append}
 use Rattle.std.proofs.lemmas.Str.{IsUtf8-from_is_utf8, is_utf8-from_IsUtf8, IsUtf8-from_ascii, IsUtf8-append, IsUtf8-nil, IsUtf8-encode, encode_ascii, chars_from_encodes, chars-IsAscii}
 use Rattle.tx_read.specs.Pieces.{behind}
-use Rattle.tx_tree.proofs.NameBytes.{and-left, and-right}
 use Rattle.tx_tree.specs.Kind.{kind_name}
-use Rattle.tx_tree.specs.Name.{is_name}
+use Rattle.tx_text.specs.Name.{is_name}
 use Rattle.tx_tree.specs.Spelled.{begins_capital, no_repeats, byte_is_spelled, key_is_spelled, kind_is_spelled, private_is_spelled}
 use Rattle.tx_tree.specs.declared.bind.Action.{Action}
 use Rattle.tx_tree.specs.declared.bind.Action.TheVariants.{FocusNext, FocusPrevious, ToggleDark, ToggleClass, Scroll}
@@ -23,7 +23,6 @@ use Rattle.tx_tree.specs.declared.kind.Kind.TheVariants.{Screen, Container, Vert
 use Rattle.tx_tree.specs.declared.kind.Private.{Private}
 use Rattle.tx_tree.specs.declared.kind.Private.TheVariants.{Plain, Cursor, On, Chosen, Bar}
 use Rattle.tx_tree_file.proofs.AgainParts.{word-again, no_blank, name-no_blank, named, later-stops, id-later, id-again, classes-later, class_list-again, disabled-later, disabled-again, private-later, private-again, number-again, decimal-no_blank, decimal-digits, same-bytes, text-later, inline-later, text-again, inline-again, kind-again}
-use Rattle.tx_tree_file.proofs.FoundParts.{both}
 use Rattle.tx_tree_file.proofs.Fronts.{none-some, same-byte, self-byte}
 use Rattle.tx_tree_file.proofs.Utf8Lemmas.{name_utf8}
 use Rattle.tx_tree_file.specs.Parts.{word, flag, flag_by, kind_of, id_of, classes_of, private_of, text_of, inline_of, function_by, or_key, long_key, only_char, key_by, key_of, named_actions, or_toggle, action_of}
@@ -51,8 +50,8 @@ is_low byte = nat_lt byte 128
 
 ascii : (bytes : List ℕ) → list_all is_low bytes ≡ true → IsAscii bytes
 ascii [] h i = lit< tt
-ascii (b ∷ bytes) h zero = ltb-true b 128 (and-left _ _ h)
-ascii (b ∷ bytes) h (suc i) = ascii bytes (and-right (is_low b) _ h) i
+ascii (b ∷ bytes) h zero = ltb-true b 128 (and_parts _ _ h).0
+ascii (b ∷ bytes) h (suc i) = ascii bytes (and_parts (is_low b) _ h).1 i
 
 pub low-utf8 : (bytes : List ℕ) → list_all is_low bytes ≡ true → IsUtf8 bytes
 low-utf8 bytes h = IsUtf8-from_ascii bytes (ascii bytes h)
@@ -62,10 +61,10 @@ digit-low d h = grind (arith, nat_tests)
 
 digits-low : (ds : List ℕ) → list_all is_ascii_digit ds ≡ true → list_all is_low ds ≡ true
 digits-low [] h = refl
-digits-low (d ∷ ds) h = both (is_low d) (list_all is_low ds) (digit-low d (and-left _ _ h)) (digits-low ds (and-right (is_ascii_digit d) _ h))
+digits-low (d ∷ ds) h = and_from (is_low d) (list_all is_low ds) (digit-low d (and_parts _ _ h).0) (digits-low ds (and_parts (is_ascii_digit d) _ h).1)
 
 high_byte : (p : ℕ → Bool) (b : ℕ) (bytes : List ℕ) → ((b : ℕ) → 128 ≤ b → p b ≡ true) → 128 ≤ b → list_all p bytes ≡ true → list_all p (b ∷ bytes) ≡ true
-high_byte p b bytes high h more = both (p b) (list_all p bytes) (high b h) more
+high_byte p b bytes high h more = and_from (p b) (list_all p bytes) (high b h) more
 
 -- a test that all bytes of a character pass
 pub encode-all : (p : ℕ → Bool) (c : ℕ) → (c < 128 → p c ≡ true) → ((b : ℕ) → 128 ≤ b → p b ≡ true) → list_all p (encode c) ≡ true
@@ -74,7 +73,7 @@ encode-all p c low high = by (nat_lt c 128) (nat_lt c 2048) (nat_lt c 65536) ref
   where
     by : (x y z : Bool) → nat_lt c 128 ≡ x
         → list_all p (cond x (c ∷ []) (cond y ((192 + c / 64) ∷ (128 + c % 64) ∷ []) (cond z ((224 + c / 4096) ∷ (128 + c / 64 % 64) ∷ (128 + c % 64) ∷ []) ((240 + c / 262144) ∷ (128 + c / 4096 % 64) ∷ (128 + c / 64 % 64) ∷ (128 + c % 64) ∷ [])))) ≡ true
-    by true y z e = both (p c) true (low (ltb-true c 128 e)) refl
+    by true y z e = and_from (p c) true (low (ltb-true c 128 e)) refl
     by false true z e = high_byte p (192 + c / 64) ((128 + c % 64) ∷ []) high (omega arith) (high_byte p (128 + c % 64) [] high (omega arith) refl)
     by false false true e = high_byte p (224 + c / 4096) ((128 + c / 64 % 64) ∷ (128 + c % 64) ∷ []) high (omega arith) (high_byte p (128 + c / 64 % 64) ((128 + c % 64) ∷ []) high (omega arith) (high_byte p (128 + c % 64) [] high (omega arith) refl))
     by false false false e = high_byte p (240 + c / 262144) ((128 + c / 4096 % 64) ∷ (128 + c / 64 % 64) ∷ (128 + c % 64) ∷ []) high (omega arith)
@@ -90,10 +89,10 @@ long-again name key h one long =
 
 char-again : (c : ℕ) → key_is_spelled (Char c) ≡ true → all_scalars (c ∷ []) ≡ true → (c == 32) ≡ false → key_of (encode_utf8 c) ≡ Some (Char c)
 char-again c h s other =
-    let utf8 = IsUtf8-encode c (and-left _ _ s) in
+    let utf8 = IsUtf8-encode c (and_parts _ _ s).0 in
     ap (λ (b : Bool). cond b (key_by (encode_utf8 c) (only_char (chars (encode_utf8 c)))) None) (is_utf8-from_IsUtf8 (encode_utf8 c) utf8)
     ∙ ap (λ (cs : List ℕ). key_by (encode_utf8 c) (only_char cs)) (sym (chars_from_encodes (c ∷ []) (encode_utf8 c) utf8 (append-nil (encode_utf8 c))))
-    ∙ ap (λ (b : Bool). cond b (Some (Char c)) None) (both (key_is_spelled (Char c)) (not (c == 32)) h (ap not other))
+    ∙ ap (λ (b : Bool). cond b (Some (Char c)) None) (and_from (key_is_spelled (Char c)) (not (c == 32)) h (ap not other))
 
 filled_digits : (digits : List ℕ) → 0 < length digits → only_char (102 ∷ digits) ≡ None
 filled_digits [] h = absurd (omega (arith, h))
@@ -101,11 +100,11 @@ filled_digits (d ∷ digits) h = refl
 
 function-again : (n : ℕ) → key_is_spelled (Function n) ≡ true → key_of (key_name (Function n)) ≡ Some (Function n)
 function-again n h =
-    let most = leb-true n 12 (and-right (nat_le 1 n) _ h) in
+    let most = leb-true n 12 (and_parts (nat_le 1 n) _ h).1 in
     let few : n < 2 ^ 64 = omega (arith, most) in
     long-again (102 ∷ decimal n) (Function n) (digits-low (decimal n) (decimal-digits n few).0) (filled_digits (decimal n) (decimal_nonempty n few))
-    (ap (λ (o : Option ℕ). or_key (option_and_then (function_by (decimal n)) o) None) (number-again 12 n few (and-right (nat_le 1 n) _ h))
-    ∙ ap (λ (b : Bool). or_key (cond b (Some (Function n)) None) None) (both (bytes_eq (decimal n) (decimal n)) (nat_le 1 n) (same-bytes (decimal n)) (and-left _ _ h)))
+    (ap (λ (o : Option ℕ). or_key (option_and_then (function_by (decimal n)) o) None) (number-again 12 n few (and_parts (nat_le 1 n) _ h).1)
+    ∙ ap (λ (b : Bool). or_key (cond b (Some (Function n)) None) None) (and_from (bytes_eq (decimal n) (decimal n)) (nat_le 1 n) (same-bytes (decimal n)) (and_parts _ _ h).0))
 
 letter-low : (b : ℕ) → (nat_le 97 b && nat_le b 122) ≡ true → is_low b ≡ true
 letter-low b h = grind (arith, nat_tests)
@@ -115,7 +114,7 @@ letter-no_blank b h = grind (arith, nat_tests)
 
 control-again : (b : ℕ) → key_is_spelled (Ctrl b) ≡ true → key_of (key_name (Ctrl b)) ≡ Some (Ctrl b)
 control-again b h =
-    long-again (codes "ctrl+" ++ b ∷ []) (Ctrl b) (both (is_low b) true (letter-low b h) refl) refl
+    long-again (codes "ctrl+" ++ b ∷ []) (Ctrl b) (and_from (is_low b) true (letter-low b h) refl) refl
     (ap (λ (x : Bool). cond x (Some (Ctrl b)) None) h)
 
 pub key-again : (key : Key) → key_is_spelled key ≡ true → key_is_typed key ≡ true → key_of (key_name key) ≡ Some key
@@ -150,8 +149,8 @@ key-no_blank (Char c) h = by (c == 32) refl
     by : (b : Bool) → (c == 32) ≡ b → list_all no_blank (cond b (codes "space") (encode_utf8 c)) ≡ true
     by true e = refl
     by false e = char-no_blank c e
-key-no_blank (Function n) h = let most = leb-true n 12 (and-right (nat_le 1 n) _ h) in decimal-no_blank n (omega (arith, most))
-key-no_blank (Ctrl b) h = both (no_blank b) true (letter-no_blank b h) refl
+key-no_blank (Function n) h = let most = leb-true n 12 (and_parts (nat_le 1 n) _ h).1 in decimal-no_blank n (omega (arith, most))
+key-no_blank (Ctrl b) h = and_from (no_blank b) true (letter-no_blank b h) refl
 key-no_blank Enter h = refl
 key-no_blank Escape h = refl
 key-no_blank Tab h = refl
@@ -172,9 +171,9 @@ key-utf8 (Char c) h s = by (c == 32)
   where
     by : (b : Bool) → IsUtf8 (cond b (codes "space") (encode_utf8 c))
     by true = low-utf8 (codes "space") refl
-    by false = IsUtf8-encode c (and-left _ _ s)
-key-utf8 (Function n) h s = let most = leb-true n 12 (and-right (nat_le 1 n) _ h) in low-utf8 (102 ∷ decimal n) (digits-low (decimal n) (decimal-digits n (omega (arith, most))).0)
-key-utf8 (Ctrl b) h s = low-utf8 (codes "ctrl+" ++ b ∷ []) (both (is_low b) true (letter-low b h) refl)
+    by false = IsUtf8-encode c (and_parts _ _ s).0
+key-utf8 (Function n) h s = let most = leb-true n 12 (and_parts (nat_le 1 n) _ h).1 in low-utf8 (102 ∷ decimal n) (digits-low (decimal n) (decimal-digits n (omega (arith, most))).0)
+key-utf8 (Ctrl b) h s = low-utf8 (codes "ctrl+" ++ b ∷ []) (and_from (is_low b) true (letter-low b h) refl)
 key-utf8 Enter h s = low-utf8 (codes "enter") refl
 key-utf8 Escape h s = low-utf8 (codes "escape") refl
 key-utf8 Tab h s = low-utf8 (codes "tab") refl
@@ -248,14 +247,14 @@ bind-again bind h t = by bind.priority refl
     read b e =
         let w = word-again (key_name bind.key) (32 ∷ action_name bind.action) (key-no_blank bind.key h) refl in
         ap₂ (λ (x y : List ℕ). key_of x >>= (λ key. behind (codes " ") y >>= (λ more. action_of more >>= (λ action. Some (record { key = key; action = action; priority = b }))))) w.0 w.1
-        ∙ ap (λ (o : Option Key). o >>= (λ key. action_of (action_name bind.action) >>= (λ action. Some (record { key = key; action = action; priority = b })))) (key-again bind.key h (and-left _ _ t))
-        ∙ ap (λ (o : Option Action). o >>= (λ action. Some (record { key = bind.key; action = action; priority = b }))) (action-again bind.action (and-right (key_is_typed bind.key) _ t))
+        ∙ ap (λ (o : Option Key). o >>= (λ key. action_of (action_name bind.action) >>= (λ action. Some (record { key = key; action = action; priority = b })))) (key-again bind.key h (and_parts _ _ t).0)
+        ∙ ap (λ (o : Option Action). o >>= (λ action. Some (record { key = bind.key; action = action; priority = b }))) (action-again bind.action (and_parts (key_is_typed bind.key) _ t).1)
         ∙ ap (λ (p : Bool). Some (record { key = bind.key; action = bind.action; priority = p })) e
 
     by : (b : Bool) → b ≡ bind.priority → bind_by (flag (codes "priority ") (priority_part bind.priority ++ rest)) ≡ Some bind
     by true e = ap (λ (p : Bool). bind_by (flag (codes "priority ") (priority_part p ++ rest))) (sym e) ∙ read true e
     by false e = ap (λ (p : Bool). bind_by (flag (codes "priority ") (priority_part p ++ rest))) (sym e)
-        ∙ ap (λ (o : Option (List ℕ)). bind_by (flag_by o rest)) (no_priority bind.key (action_name bind.action) h (and-left _ _ t)) ∙ read false e
+        ∙ ap (λ (o : Option (List ℕ)). bind_by (flag_by o rest)) (no_priority bind.key (action_name bind.action) h (and_parts _ _ t).0) ∙ read false e
 
 priority-utf8 : (b : Bool) → IsUtf8 (priority_part b)
 priority-utf8 true = low-utf8 (codes "priority ") refl
@@ -263,22 +262,22 @@ priority-utf8 false = IsUtf8-nil
 
 pub bind-utf8 : (bind : Bind) → key_is_spelled bind.key ≡ true → bind_is_typed bind ≡ true → IsUtf8 (bind_text bind)
 bind-utf8 bind h t =
-    IsUtf8-append _ _ (low-utf8 (codes "bind ") refl) (IsUtf8-append _ _ (priority-utf8 bind.priority) (IsUtf8-append _ _ (key-utf8 bind.key h (and-left _ _ t))
-    (IsUtf8-append _ _ (low-utf8 (codes " ") refl) (action-utf8 bind.action (and-right (key_is_typed bind.key) _ t)))))
+    IsUtf8-append _ _ (low-utf8 (codes "bind ") refl) (IsUtf8-append _ _ (priority-utf8 bind.priority) (IsUtf8-append _ _ (key-utf8 bind.key h (and_parts _ _ t).0)
+    (IsUtf8-append _ _ (low-utf8 (codes " ") refl) (action-utf8 bind.action (and_parts (key_is_typed bind.key) _ t).1))))
 
 -- ---- texts as UTF-8
 
 high : (bytes : List ℕ) → list_all (λ b. nat_le 128 b) bytes ≡ true → flat_map escaped bytes ≡ bytes
 high [] h = refl
 high (b ∷ bytes) h =
-    let big = leb-true 128 b (and-left _ _ h) in
+    let big = leb-true 128 b (and_parts _ _ h).0 in
     let a : (b == 34) ≡ false = ne_eqb b 34 (λ same. absurd (omega (arith, big, same))) in
     let d : (b == 92) ≡ false = ne_eqb b 92 (λ same. absurd (omega (arith, big, same))) in
     let f : (b == 10) ≡ false = ne_eqb b 10 (λ same. absurd (omega (arith, big, same))) in
     ap (λ (x : Bool). cond x (codes "\\\"") (cond (b == 92) (codes "\\\\") (cond (b == 10) (codes "\\n") (b ∷ []))) ++ flat_map escaped bytes) a
     ∙ ap (λ (x : Bool). cond x (codes "\\\\") (cond (b == 10) (codes "\\n") (b ∷ [])) ++ flat_map escaped bytes) d
     ∙ ap (λ (x : Bool). cond x (codes "\\n") (b ∷ []) ++ flat_map escaped bytes) f
-    ∙ ap (λ (z : List ℕ). b ∷ z) (high bytes (and-right (nat_le 128 b) _ h))
+    ∙ ap (λ (z : List ℕ). b ∷ z) (high bytes (and_parts (nat_le 128 b) _ h).1)
 
 escaped-low : (b : ℕ) → b < 128 → list_all is_low (escaped b) ≡ true
 escaped-low b h = by (b == 34) (b == 92) (b == 10)
@@ -287,7 +286,7 @@ escaped-low b h = by (b == 34) (b == 92) (b == 10)
     by true y z = refl
     by false true z = refl
     by false false true = refl
-    by false false false = both (is_low b) true (lt-ltb b 128 h) refl
+    by false false false = and_from (is_low b) true (lt-ltb b 128 h) refl
 
 char_escaped-utf8 : (c : ℕ) → all_scalars (c ∷ []) ≡ true → IsUtf8 (flat_map escaped (encode c))
 char_escaped-utf8 c s = by (nat_lt c 128) refl
@@ -298,12 +297,12 @@ char_escaped-utf8 c s = by (nat_lt c 128) refl
         subst IsUtf8 (sym (ap (flat_map escaped) (encode_ascii c small) ∙ append-nil (escaped c))) (low-utf8 (escaped c) (escaped-low c small))
     by false e =
         let big = ltb-false c 128 e in
-        subst IsUtf8 (sym (high (encode c) (encode-all (λ b. nat_le 128 b) c (λ h. absurd (omega (arith, h, big))) (λ b h. le-leb 128 b h)))) (IsUtf8-encode c (and-left _ _ s))
+        subst IsUtf8 (sym (high (encode c) (encode-all (λ b. nat_le 128 b) c (λ h. absurd (omega (arith, h, big))) (λ b h. le-leb 128 b h)))) (IsUtf8-encode c (and_parts _ _ s).0)
 
 escaped-utf8 : (cs : List ℕ) → all_scalars cs ≡ true → IsUtf8 (flat_map escaped (encode_utf8_all cs))
 escaped-utf8 [] s = IsUtf8-nil
 escaped-utf8 (c ∷ cs) s =
-    subst IsUtf8 (sym (flat_map-append escaped (encode c) (encode_utf8_all cs))) (IsUtf8-append _ _ (char_escaped-utf8 c (both _ true (and-left _ _ s) refl)) (escaped-utf8 cs (and-right _ (all_scalars cs) s)))
+    subst IsUtf8 (sym (flat_map-append escaped (encode c) (encode_utf8_all cs))) (IsUtf8-append _ _ (char_escaped-utf8 c (and_from _ true (and_parts _ _ s).0 refl)) (escaped-utf8 cs (and_parts _ (all_scalars cs) s).1))
 
 text-utf8 : (text : List ℕ) → is_utf8 text ≡ true → IsUtf8 (text_part text)
 text-utf8 [] u = IsUtf8-nil
@@ -326,7 +325,7 @@ id-utf8 (Some id) h = IsUtf8-append (codes " #") id (low-utf8 (codes " #") refl)
 classes-utf8 : (names : List (List ℕ)) → list_all is_name names ≡ true → IsUtf8 (class_parts names)
 classes-utf8 [] h = IsUtf8-nil
 classes-utf8 (name ∷ names) h =
-    IsUtf8-append (class_part name) (class_parts names) (IsUtf8-append (codes " .") name (low-utf8 (codes " .") refl) (name_utf8 name (and-left _ _ h))) (classes-utf8 names (and-right (is_name name) _ h))
+    IsUtf8-append (class_part name) (class_parts names) (IsUtf8-append (codes " .") name (low-utf8 (codes " .") refl) (name_utf8 name (and_parts _ _ h).0)) (classes-utf8 names (and_parts (is_name name) _ h).1)
 
 disabled-utf8 : (b : Bool) → IsUtf8 (disabled_part b)
 disabled-utf8 true = low-utf8 (codes " disabled") refl
@@ -342,7 +341,7 @@ private-utf8 kind (On false) h = IsUtf8-nil
 private-utf8 kind Plain h = IsUtf8-nil
 private-utf8 kind (Cursor place) h = IsUtf8-nil
 private-utf8 kind (Chosen line) h = IsUtf8-nil
-private-utf8 ProgressBar (Bar done total) h = total-utf8 (total == 100) total (leb-true total 1000000 (and-right (nat_le 1 total) _ h))
+private-utf8 ProgressBar (Bar done total) h = total-utf8 (total == 100) total (leb-true total 1000000 (and_parts (nat_le 1 total) _ h).1)
 private-utf8 Screen (Bar done total) h = absurd (false≢true h)
 private-utf8 Container (Bar done total) h = absurd (false≢true h)
 private-utf8 Vertical (Bar done total) h = absurd (false≢true h)
@@ -361,7 +360,7 @@ private-utf8 (Handed name) (Bar done total) h = absurd (false≢true h)
 
 -- the name of a kind begins with a capital letter
 pub capital : (kind : Kind) → kind_is_spelled kind ≡ true → begins_capital (kind_name kind) ≡ true
-capital (Handed name) h = and-left (begins_capital name) _ h
+capital (Handed name) h = (and_parts (begins_capital name) _ h).0
 capital Screen h = refl
 capital Container h = refl
 capital Vertical h = refl
@@ -431,27 +430,27 @@ pub record HasParts (row : Row) : Type 0 where
 
 pub has-parts : (row : Row) → is_typed row ≡ true → is_spelled row ≡ true → HasParts row
 has-parts row t s =
-    let t1 = and-right (kind_is_typed row.kind) _ t in
-    let t2 = and-right (id_is_typed row.id) _ t1 in
-    let t3 = and-right (list_all is_name row.classes.names) _ t2 in
-    let t4 = and-right (is_utf8 row.text) _ t3 in
-    let s1 = and-right (no_repeats row.classes.names) _ s in
-    let s2 = and-right (kind_is_spelled row.kind) _ s1 in
-    let s3 = and-right (list_all byte_is_spelled row.text) _ s2 in
-    let s4 = and-right (list_all no_line_feed row.inline) _ s3 in
+    let t1 = (and_parts (kind_is_typed row.kind) _ t).1 in
+    let t2 = (and_parts (id_is_typed row.id) _ t1).1 in
+    let t3 = (and_parts (list_all is_name row.classes.names) _ t2).1 in
+    let t4 = (and_parts (is_utf8 row.text) _ t3).1 in
+    let s1 = (and_parts (no_repeats row.classes.names) _ s).1 in
+    let s2 = (and_parts (kind_is_spelled row.kind) _ s1).1 in
+    let s3 = (and_parts (list_all byte_is_spelled row.text) _ s2).1 in
+    let s4 = (and_parts (list_all no_line_feed row.inline) _ s3).1 in
     record {
-      kind_typed = and-left (kind_is_typed row.kind) _ t;
-      id_typed = and-left (id_is_typed row.id) _ t1;
-      classes_typed = and-left (list_all is_name row.classes.names) _ t2;
-      text_utf8 = and-left (is_utf8 row.text) _ t3;
-      inline_utf8 = and-left (is_utf8 row.inline) _ t4;
-      binds_typed = and-right (is_utf8 row.inline) _ t4;
-      once = and-left (no_repeats row.classes.names) _ s;
-      kind_spelled = and-left (kind_is_spelled row.kind) _ s1;
-      text_spelled = and-left (list_all byte_is_spelled row.text) _ s2;
-      inline_spelled = and-left (list_all no_line_feed row.inline) _ s3;
-      binds_spelled = and-left (list_all (λ bind. key_is_spelled bind.key) row.binds) _ s4;
-      private_spelled = and-right (list_all (λ bind. key_is_spelled bind.key) row.binds) _ s4;
+      kind_typed = (and_parts (kind_is_typed row.kind) _ t).0;
+      id_typed = (and_parts (id_is_typed row.id) _ t1).0;
+      classes_typed = (and_parts (list_all is_name row.classes.names) _ t2).0;
+      text_utf8 = (and_parts (is_utf8 row.text) _ t3).0;
+      inline_utf8 = (and_parts (is_utf8 row.inline) _ t4).0;
+      binds_typed = (and_parts (is_utf8 row.inline) _ t4).1;
+      once = (and_parts (no_repeats row.classes.names) _ s).0;
+      kind_spelled = (and_parts (kind_is_spelled row.kind) _ s1).0;
+      text_spelled = (and_parts (list_all byte_is_spelled row.text) _ s2).0;
+      inline_spelled = (and_parts (list_all no_line_feed row.inline) _ s3).0;
+      binds_spelled = (and_parts (list_all (λ bind. key_is_spelled bind.key) row.binds) _ s4).0;
+      private_spelled = (and_parts (list_all (λ bind. key_is_spelled bind.key) row.binds) _ s4).1;
     }
 
 pub row-utf8 : (row : Row) → HasParts row → IsUtf8 (row_text row)
@@ -556,7 +555,7 @@ row_line-again depth d row h other below shallow step =
     let (count, past) = blanks-again (2 * d) (row_text row) begins in
     let utf8 = is_utf8-from_IsUtf8 line (IsUtf8-append _ _ (indent-utf8 (2 * d)) (row-utf8 row h)) in
     let is_row : is_bind_line line ≡ false = ap starts_bind past ∙ no_bind in
-    let stands : may_stand depth false (2 * d) ≡ true = both _ _ ((Decides-eqb (2 * d % 2) 0).1 (omega arith)) (both _ _ (le-leb 2 (2 * d) (omega (arith, below))) (le-leb (2 * d) (2 * (depth + 1)) (omega (arith, step)))) in
+    let stands : may_stand depth false (2 * d) ≡ true = and_from _ _ ((Decides-eqb (2 * d % 2) 0).1 (omega arith)) (and_from _ _ (le-leb 2 (2 * d) (omega (arith, below))) (le-leb (2 * d) (2 * (depth + 1)) (omega (arith, step)))) in
     let few : (2 * d == 128) ≡ false = ne_eqb (2 * d) 128 (λ same. absurd (omega (arith, same, shallow))) in
     let half : 2 * d / 2 ≡ d = omega arith in
     ap (λ (b : Bool). cond (not b) (Err BadByte) (cond (not (may_stand depth (is_bind_line line) (blanks line))) (Err BadIndent) (cond (is_bind_line line) (bind_item (past_blanks line) true) (row_item (blanks line) (past_blanks line) true)))) utf8

@@ -1,4 +1,5 @@
 -- What is spelled is read again, part by part.
+use Rattle.std.proofs.lemmas.Bool.{and_parts, and_from}
 use Rattle.std.proofs.Common.{◌≡◌, ℕ, zero, suc, ◌+◌, ◌-◌, ◌*◌, ◌%◌, ◌<◌, ◌≤◌, ◌==◌, ◌||◌, ◌^◌, Bool, true, false, cond, not, nat_le, nat_lt, List, [], ◌∷◌, ◌++◌, length, take, drop, flat_map, find, map, Option, Some, None, option_map, option_and_then, refl, ap, ap₂, sym, ◌∙◌, arith, append_assoc, length-append, codes, decimal, bytes_eq, drop_at, take_at}
 use Rattle.std.specs.Char.{is_ascii_digit}
 use Rattle.std.specs.List.{list_all, list_any}
@@ -10,16 +11,14 @@ use Rattle.std.proofs.lemmas.Slice.Eq.{bytes_eq-Decides}
 use Rattle.std.proofs.lemmas.Str.{is_utf8-from_IsUtf8}
 use Rattle.tx_read.specs.Number.{number_at_most, value, value_behind}
 use Rattle.tx_read.specs.Pieces.{behind}
-use Rattle.tx_tree.proofs.NameBytes.{and-left, and-right}
 use Rattle.tx_tree.specs.Kind.{kind_name}
-use Rattle.tx_tree.specs.Name.{is_name, begins_name, continues_name}
+use Rattle.tx_text.specs.Name.{is_name, begins_name, continues_name}
 use Rattle.tx_tree.specs.Spelled.{begins_capital, no_repeats, byte_is_spelled, kind_is_spelled, container_names, leaf_names, private_is_spelled, is_plain as is_plain_state, is_bar}
 use Rattle.tx_tree.specs.declared.kind.Kind.{Kind}
 use Rattle.tx_tree.specs.declared.kind.Kind.TheVariants.{Screen, Container, Vertical, Horizontal, Grid, VerticalScroll, Static, Label, Button, Checkbox, Input, OptionList, ProgressBar, Header, Footer, Handed}
 use Rattle.tx_tree.specs.declared.kind.Private.{Private}
 use Rattle.tx_tree.specs.declared.kind.Private.TheVariants.{Plain, Cursor, On, Chosen, Bar}
 use Rattle.tx_tree_file.proofs.FoundLines.{any-append}
-use Rattle.tx_tree_file.proofs.FoundParts.{both}
 use Rattle.tx_tree_file.proofs.Fronts.{same-byte}
 use Rattle.tx_tree_file.proofs.Utf8Lemmas.{name_utf8}
 use Rattle.tx_tree_file.specs.Parts.{word, past_word, name_of, flag, flag_by, built_in, or_handed, kind_of, id_of, id_by, classes_within, class_by, classes_of, is_total, total_of, bar_by, box_by, private_of, is_plain, put_front, quoted, some_text, text_by, text_of, before_brace, inline_of}
@@ -71,8 +70,8 @@ pub word-again : (name bytes : List ℕ) → list_all no_blank name ≡ true →
 word-again [] [] h s = (refl, refl)
 word-again [] (b ∷ bytes) h s = (ap (λ (x : ℕ). cond (x == 32) [] (b ∷ word bytes)) s, ap (λ (x : ℕ). cond (x == 32) (b ∷ bytes) (past_word bytes)) s)
 word-again (c ∷ name) bytes h s =
-    let other : (c == 32) ≡ false = not_false' (c == 32) (and-left (no_blank c) _ h) in
-    let more = word-again name bytes (and-right (no_blank c) _ h) s in (
+    let other : (c == 32) ≡ false = not_false' (c == 32) (and_parts (no_blank c) _ h).0 in
+    let more = word-again name bytes (and_parts (no_blank c) _ h).1 s in (
       ap (λ (x : Bool). cond x [] (c ∷ word (name ++ bytes))) other ∙ ap (λ (z : List ℕ). c ∷ z) more.0,
       ap (λ (x : Bool). cond x (c ∷ (name ++ bytes)) (past_word (name ++ bytes))) other ∙ more.1,
     )
@@ -89,11 +88,11 @@ continues-no_blank byte h = grind (arith, nat_tests)
 
 all_continue-no_blank : (bytes : List ℕ) → list_all continues_name bytes ≡ true → list_all no_blank bytes ≡ true
 all_continue-no_blank [] h = refl
-all_continue-no_blank (b ∷ bytes) h = both (no_blank b) (list_all no_blank bytes) (continues-no_blank b (and-left _ _ h)) (all_continue-no_blank bytes (and-right (continues_name b) _ h))
+all_continue-no_blank (b ∷ bytes) h = and_from (no_blank b) (list_all no_blank bytes) (continues-no_blank b (and_parts _ _ h).0) (all_continue-no_blank bytes (and_parts (continues_name b) _ h).1)
 
 pub name-no_blank : (name : List ℕ) → is_name name ≡ true → list_all no_blank name ≡ true
 name-no_blank [] h = refl
-name-no_blank (b ∷ bytes) h = both (no_blank b) (list_all no_blank bytes) (begins-no_blank b (and-left _ _ h)) (all_continue-no_blank bytes (and-right _ _ (and-right (begins_name b) _ h)))
+name-no_blank (b ∷ bytes) h = and_from (no_blank b) (list_all no_blank bytes) (begins-no_blank b (and_parts _ _ h).0) (all_continue-no_blank bytes (and_parts _ _ (and_parts (begins_name b) _ h).1).1)
 
 pub named : (name : List ℕ) → is_name name ≡ true → name_of name ≡ Some name
 named name h = rw h refl
@@ -119,10 +118,10 @@ classes-again zero [] bytes few h l = refl
 classes-again (suc n) [] bytes few h l = ap (λ (o : Option (List ℕ)). class_by o bytes (classes_within n)) (not_next 46 [] 3 bytes (omega arith) l)
 classes-again zero (name ∷ names) bytes few h l = absurd (omega (arith, few))
 classes-again (suc n) (name ∷ names) bytes few h l =
-    let is = and-left (is_name name) _ h in
+    let is = (and_parts (is_name name) _ h).0 in
     let rest = class_parts names ++ bytes in
     let w = word-again name rest (name-no_blank name is) (later-stops 2 rest (classes-later names bytes l)) in
-    let more = classes-again n names bytes (omega (arith, few)) (and-right (is_name name) _ h) l in
+    let more = classes-again n names bytes (omega (arith, few)) (and_parts (is_name name) _ h).1 l in
     let f = λ (x : List ℕ) (y : List ℕ). cond (is_name x) (option_map (λ (found : List (List ℕ) × List ℕ). (x ∷ found.0, found.1)) (classes_within n y)) None in
     ap (classes_within (suc n)) (append_assoc (class_part name) (class_parts names) bytes)
     ∙ ap₂ f w.0 w.1
@@ -180,22 +179,22 @@ plain-state (Bar d t) h = absurd (false≢true h)
 
 -- digits
 digits-snoc : (ds : List ℕ) (d : ℕ) → list_all is_ascii_digit ds ≡ true → is_ascii_digit d ≡ true → list_all is_ascii_digit (ds ++ d ∷ []) ≡ true
-digits-snoc [] d h e = both _ true e refl
-digits-snoc (x ∷ ds) d h e = both (is_ascii_digit x) (list_all is_ascii_digit (ds ++ d ∷ [])) (and-left _ _ h) (digits-snoc ds d (and-right (is_ascii_digit x) _ h) e)
+digits-snoc [] d h e = and_from _ true e refl
+digits-snoc (x ∷ ds) d h e = and_from (is_ascii_digit x) (list_all is_ascii_digit (ds ++ d ∷ [])) (and_parts _ _ h).0 (digits-snoc ds d (and_parts (is_ascii_digit x) _ h).1 e)
 
 value-snoc : (n : ℕ) (ds : List ℕ) (d : ℕ) → value_behind n (ds ++ d ∷ []) ≡ value_behind n ds * 10 + (d - 48)
 value-snoc n [] d = refl
 value-snoc n (x ∷ ds) d = value-snoc (n * 10 + (x - 48)) ds d
 
 a_digit : (n : ℕ) → n < 10 → is_ascii_digit (48 + n) ≡ true
-a_digit n h = both _ _ (le-leb 48 (48 + n) (omega arith)) (le-leb (48 + n) 57 (omega (arith, h)))
+a_digit n h = and_from _ _ (le-leb 48 (48 + n) (omega arith)) (le-leb (48 + n) 57 (omega (arith, h)))
 
 abbrev AreDigits : ℕ → List ℕ → Type 0
 AreDigits n ds = (list_all is_ascii_digit ds ≡ true) × (value ds ≡ n)
 
 pub decimal-digits : (n : ℕ) → n < 2 ^ 64 → AreDigits n (decimal n)
 decimal-digits n h = decimal_by_steps AreDigits
-    (λ n h. (both _ true (a_digit n h) refl, omega arith))
+    (λ n h. (and_from _ true (a_digit n h) refl, omega arith))
     (λ n ds h m.
     let below : n % 10 < 10 = omega arith in
     let last = m.1 in
@@ -214,7 +213,7 @@ digit-no_blank d h = grind (arith, nat_tests)
 
 digits-no_blank : (ds : List ℕ) → list_all is_ascii_digit ds ≡ true → list_all no_blank ds ≡ true
 digits-no_blank [] h = refl
-digits-no_blank (d ∷ ds) h = both (no_blank d) (list_all no_blank ds) (digit-no_blank d (and-left _ _ h)) (digits-no_blank ds (and-right (is_ascii_digit d) _ h))
+digits-no_blank (d ∷ ds) h = and_from (no_blank d) (list_all no_blank ds) (digit-no_blank d (and_parts _ _ h).0) (digits-no_blank ds (and_parts (is_ascii_digit d) _ h).1)
 
 pub decimal-no_blank : (n : ℕ) → n < 2 ^ 64 → list_all no_blank (decimal n) ≡ true
 decimal-no_blank n h = digits-no_blank (decimal n) (decimal-digits n h).0
@@ -227,13 +226,13 @@ total-again n least most other =
     let m = leb-true n 1000000 most in
     let few : n < 2 ^ 64 = omega (arith, m) in
     ap (option_and_then (λ (z : ℕ). cond (is_total (decimal n) z) (Some z) None)) (number-again 1000000 n few most)
-    ∙ ap (λ (b : Bool). cond b (Some n) None) (both _ _ (same-bytes (decimal n)) (both _ _ least (ap not other)))
+    ∙ ap (λ (b : Bool). cond b (Some n) None) (and_from _ _ (same-bytes (decimal n)) (and_from _ _ least (ap not other)))
 
 bar-again : (done total : ℕ) (bytes : List ℕ) → is_bar (Bar done total) ≡ true → Later 5 bytes → IsStateAgain ProgressBar (Bar done total) bytes
 bar-again done total bytes h l = by (total == 100) refl
   where
     most : total ≤ 1000000
-    most = leb-true total 1000000 (and-right (nat_le 1 total) _ h)
+    most = leb-true total 1000000 (and_parts (nat_le 1 total) _ h).1
 
     by : (b : Bool) → (total == 100) ≡ b → IsStateAgain ProgressBar (Bar done total) bytes
     by true e = record {
@@ -247,7 +246,7 @@ bar-again done total bytes h l = by (total == 100) refl
           state = Bar 0 total;
           read = ap (λ (b : Bool). bar_by (behind (codes " total ") (cond b [] (codes " total " ++ decimal total) ++ bytes)) (cond b [] (codes " total " ++ decimal total) ++ bytes)) e
               ∙ ap₂ (λ (x y : List ℕ). option_map (λ (t : ℕ). (Bar 0 t, y)) (total_of x)) w.0 w.1
-              ∙ ap (option_map (λ (t : ℕ). (Bar 0 t, bytes))) (total-again total (and-left _ _ h) (and-right (nat_le 1 total) _ h) e);
+              ∙ ap (option_map (λ (t : ℕ). (Bar 0 t, bytes))) (total-again total (and_parts _ _ h).0 (and_parts (nat_le 1 total) _ h).1 e);
           same = λ size. refl;
         }
 
@@ -304,7 +303,7 @@ inline-later (byte ∷ bytes) = (refl, omega arith)
 
 quoted-again : (text bytes : List ℕ) → list_all byte_is_spelled text ≡ true → quoted false (flat_map escaped text ++ (34 ∷ bytes)) ≡ Some (text, bytes)
 quoted-again [] bytes h = refl
-quoted-again (byte ∷ text) bytes h = ap (quoted false) (append_assoc (escaped byte) (flat_map escaped text) (34 ∷ bytes)) ∙ by (byte == 34) (byte == 92) (byte == 10) refl refl refl (quoted-again text bytes (and-right (byte_is_spelled byte) _ h))
+quoted-again (byte ∷ text) bytes h = ap (quoted false) (append_assoc (escaped byte) (flat_map escaped text) (34 ∷ bytes)) ∙ by (byte == 34) (byte == 92) (byte == 10) refl refl refl (quoted-again text bytes (and_parts (byte_is_spelled byte) _ h).1)
   where
     rest : List ℕ
     rest = flat_map escaped text ++ (34 ∷ bytes)
@@ -315,7 +314,7 @@ quoted-again (byte ∷ text) bytes h = ap (quoted false) (append_assoc (escaped 
     by false true c e f g more = ap (put_front (Some 92)) more ∙ ap (λ (z : ℕ). Some (z ∷ text, bytes)) (sym (same-byte byte 92 f))
     by false false true e f g more = ap (put_front (Some 10)) more ∙ ap (λ (z : ℕ). Some (z ∷ text, bytes)) (sym (same-byte byte 10 g))
     by false false false e f g more =
-        let good : is_plain byte ≡ true = both (byte_is_spelled byte) (not (byte == 10)) (and-left _ _ h) (ap not g) in
+        let good : is_plain byte ≡ true = and_from (byte_is_spelled byte) (not (byte == 10)) (and_parts _ _ h).0 (ap not g) in
         ap (λ (x : Bool). cond x (Some ([], rest)) (cond (byte == 92) (quoted true rest) (cond (is_plain byte) (put_front (Some byte) (quoted false rest)) None))) e
         ∙ ap (λ (x : Bool). cond x (quoted true rest) (cond (is_plain byte) (put_front (Some byte) (quoted false rest)) None)) f
         ∙ ap (λ (x : Bool). cond x (put_front (Some byte) (quoted false rest)) None) good
@@ -324,7 +323,7 @@ quoted-again (byte ∷ text) bytes h = ap (quoted false) (append_assoc (escaped 
 some-again : (byte : ℕ) (text : List ℕ) → is_utf8 (byte ∷ text) ≡ true → some_text (byte ∷ text) ≡ Some (byte ∷ text)
 some-again byte text h =
     let filled : (length (byte ∷ text) == 0) ≡ false = ne_eqb (length (byte ∷ text)) 0 (λ same. absurd (omega (arith, same))) in
-    ap (λ (b : Bool). cond b (Some (byte ∷ text)) None) (both _ _ h (ap not filled))
+    ap (λ (b : Bool). cond b (Some (byte ∷ text)) None) (and_from _ _ h (ap not filled))
 
 pub text-again : (text bytes : List ℕ) → list_all byte_is_spelled text ≡ true → is_utf8 text ≡ true → Later 6 bytes → text_of (text_part text ++ bytes) ≡ Some (text, bytes)
 text-again [] bytes h u l = ap (λ (o : Option (List ℕ)). text_by o bytes) (not_next 34 [] 6 bytes (omega arith) l)
@@ -370,8 +369,8 @@ not_inv false h = refl
 
 pub kind-again : (kind : Kind) → kind_is_spelled kind ≡ true → kind_is_typed kind ≡ true → kind_of (kind_name kind) ≡ Some kind
 kind-again (Handed name) h t =
-    built-again name None (Handed name) t (none-found name kind_name built_in (any-append (bytes_eq name) container_names leaf_names ∙ not_inv _ (and-right _ _ h)))
-    (ap (λ (b : Bool). cond b (Some (Handed name)) None) (both _ _ t (and-left (begins_capital name) _ h)))
+    built-again name None (Handed name) t (none-found name kind_name built_in (any-append (bytes_eq name) container_names leaf_names ∙ not_inv _ (and_parts _ _ h).1))
+    (ap (λ (b : Bool). cond b (Some (Handed name)) None) (and_from _ _ t (and_parts (begins_capital name) _ h).0))
 kind-again Screen h t = built-again (codes "Screen") (Some Screen) Screen refl refl refl
 kind-again Container h t = built-again (codes "Container") (Some Container) Container refl refl refl
 kind-again Vertical h t = built-again (codes "Vertical") (Some Vertical) Vertical refl refl refl

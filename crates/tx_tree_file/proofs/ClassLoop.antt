@@ -1,10 +1,10 @@
 -- Classes read one behind another.
 use Rattle.std.proofs.Common.{◌≡◌, ℕ, zero, suc, ◌+◌, ◌-◌, ◌≤◌, ◌==◌, Bool, true, false, cond, List, [], ◌∷◌, ◌++◌, length, Option, Some, None, option_map, refl, ap, sym, ◌∙◌, arith, append_assoc, append-nil, length-append, codes}
 use Rattle.tx_read.specs.Pieces.{behind}
-use Rattle.tx_tree_file.proofs.Fronts.{front_of, some-same, none-some}
-use Rattle.tx_tree.specs.Name.{is_name}
+use Rattle.tx_tree_file.proofs.Fronts.{front_of}
+use Rattle.tx_text.specs.Name.{is_name}
 use Rattle.tx_tree.specs.Spelled.{no_repeats}
-use Rattle.tx_tree_file.specs.Parts.{word, past_word, name_of, classes_within, classes_of}
+use Rattle.tx_tree_file.specs.Parts.{word, past_word, classes_within, classes_of}
 
 abbrev pub Found : Type 0
 Found = Option (List (List ℕ) × List ℕ)
@@ -36,20 +36,6 @@ stop : (n : ℕ) (bytes : List ℕ) → behind (codes " .") bytes ≡ None → c
 stop zero bytes e = refl
 stop (suc n) bytes e = rw e refl
 
-named : (bytes name : List ℕ) → name_of bytes ≡ Some name → (is_name bytes ≡ true) × (bytes ≡ name)
-named bytes name h = by (is_name bytes) refl h
-  where
-    by : (b : Bool) → is_name bytes ≡ b → cond b (Some bytes) None ≡ Some name → (is_name bytes ≡ true) × (bytes ≡ name)
-    by true e g = (e, some-same g)
-    by false e g = none-some g
-
-unnamed : (bytes : List ℕ) → name_of bytes ≡ None → is_name bytes ≡ false
-unnamed bytes h = by (is_name bytes) refl h
-  where
-    by : (b : Bool) → is_name bytes ≡ b → cond b (Some bytes) None ≡ None → is_name bytes ≡ false
-    by true e g = none-some (sym g)
-    by false e g = e
-
 shorter : (bytes rest : List ℕ) → behind (codes " .") bytes ≡ Some rest → length bytes ≡ 2 + length rest
 shorter bytes rest e = let a = ap length (front_of (codes " .") bytes rest e) in omega (arith, a)
 
@@ -69,30 +55,29 @@ next_room most front name bytes rest next room e f =
 
 pub next_class : (most : ℕ) (front : List (List ℕ)) (all bytes rest next name : List ℕ) → length bytes + length front ≤ most
     → before front (classes_within (most - length front) bytes) ≡ classes_within most all
-    → behind (codes " .") bytes ≡ Some rest → name_of (word rest) ≡ Some name → next ≡ past_word rest
+    → behind (codes " .") bytes ≡ Some rest → is_name (word rest) ≡ true → name ≡ word rest → next ≡ past_word rest
     → before (front ++ name ∷ []) (classes_within (most - length (front ++ name ∷ [])) next) ≡ classes_within most all
-next_class most front all bytes rest next name room so e n f =
+next_class most front all bytes rest next name room so e is same f =
     let a = shorter bytes rest e in
     let there : suc (most - length front - 1) ≡ most - length front = omega (arith, a, room) in
-    let (is, same) = named (word rest) name n in
     let b : length (front ++ name ∷ []) ≡ length front + 1 = length-append front (name ∷ []) in
     let left : most - length (front ++ name ∷ []) ≡ most - length front - 1 = omega (arith, b) in
     ap (λ (m : ℕ). before (front ++ name ∷ []) (classes_within m next)) left
     ∙ ap (λ (z : List ℕ). before (front ++ name ∷ []) (classes_within (most - length front - 1) z)) f
     ∙ sym (before-cons front name (classes_within (most - length front - 1) (past_word rest)))
-    ∙ ap (λ (z : List ℕ). before front (option_map (λ f. (z ∷ f.0, f.1)) (classes_within (most - length front - 1) (past_word rest)))) (sym same)
+    ∙ ap (λ (z : List ℕ). before front (option_map (λ f. (z ∷ f.0, f.1)) (classes_within (most - length front - 1) (past_word rest)))) same
     ∙ ap (before front) (sym (step (most - length front - 1) bytes rest e is))
     ∙ ap (λ (m : ℕ). before front (classes_within m bytes)) there
     ∙ so
 
 pub no_class : (front : List (List ℕ)) (all bytes rest : List ℕ) → length bytes + length front ≤ length all
     → before front (classes_within (length all - length front) bytes) ≡ classes_within (length all) all
-    → behind (codes " .") bytes ≡ Some rest → name_of (word rest) ≡ None → None ≡ classes_of all
+    → behind (codes " .") bytes ≡ Some rest → is_name (word rest) ≡ false → None ≡ classes_of all
 no_class front all bytes rest room so e n =
     let a = shorter bytes rest e in
     let there : suc (length all - length front - 1) ≡ length all - length front = omega (arith, a, room) in
     let fails : classes_within (length all) all ≡ None =
-    sym so ∙ ap (λ (m : ℕ). before front (classes_within m bytes)) (sym there) ∙ ap (before front) (no_step (length all - length front - 1) bytes rest e (unnamed (word rest) n)) in
+    sym so ∙ ap (λ (m : ℕ). before front (classes_within m bytes)) (sym there) ∙ ap (before front) (no_step (length all - length front - 1) bytes rest e n) in
     rw fails refl
 
 pub all_classes : (front : List (List ℕ)) (all bytes : List ℕ) (b : Bool)

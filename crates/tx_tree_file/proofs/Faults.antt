@@ -1,10 +1,10 @@
 -- The first line that breaks a rule.
+use Rattle.std.proofs.lemmas.Bool.{and_parts}
 use Rattle.std.proofs.Common.{◌≡◌, ℕ, ◌+◌, ◌*◌, ◌/◌, ◌≤◌, ◌==◌, Bool, true, false, cond, not, List, [], ◌∷◌, ◌++◌, length, replicate, Option, Some, None, Result, Ok, Err, refl, ap, ap₂, sym, subst, ◌∙◌, arith, append_assoc, append-nil, length-append, ◌≢◌, ◌⊎◌, inl, inr, ⊎_elim, codes}
 use Rattle.std.specs.List.{list_all}
 use Rattle.std.specs.Str.{is_utf8}
 use Rattle.std.proofs.lemmas.Bool.{false≢true, ne_eqb}
 use Rattle.tx_read.specs.Pieces.{pieces}
-use Rattle.tx_tree.proofs.NameBytes.{and-left, and-right}
 use Rattle.tx_tree.specs.Kind.{is_screen}
 use Rattle.tx_tree.specs.Mount.{is_taken}
 use Rattle.tx_tree.specs.Row.{placed}
@@ -220,11 +220,11 @@ fault-behind bytes ((byte ∷ line) ∷ []) done begun fault h deep whole text c
       after = [];
       begun = begun-of begun h;
       place = text ∙ ap (λ (z : List ℕ). spelling (rows_so_far begun) ++ z) (sym (append-nil (byte ∷ line)));
-      whole = and-left _ _ whole;
+      whole = (and_parts _ _ whole).0;
       ends = refl;
       more = inr (λ none. absurd cc);
       counted = ap (λ (n : ℕ). n + 1) count;
-      broken = next-breaks begun (byte ∷ line) false f.0 deep (and-left _ _ whole) f.1;
+      broken = next-breaks begun (byte ∷ line) false f.0 deep (and_parts _ _ whole).0 f.1;
     }))
     (λ g. ok-err g.2)
     (fault-inv (done + 1) (next_line begun (byte ∷ line) false) (rows_behind [] (done + 1)) fault is)
@@ -236,15 +236,15 @@ fault-behind bytes (line ∷ second ∷ lines) done begun fault h deep whole tex
       after = 10 ∷ joined (second ∷ lines);
       begun = begun-of begun h;
       place = text;
-      whole = and-left _ _ whole;
+      whole = (and_parts _ _ whole).0;
       ends = refl;
       more = inr (not_nil line 10 (joined (second ∷ lines)));
       counted = ap (λ (n : ℕ). n + 1) count;
-      broken = next-breaks begun line true f.0 deep (and-left _ _ whole) f.1;
+      broken = next-breaks begun line true f.0 deep (and_parts _ _ whole).0 f.1;
     }))
     (λ g.
-    let good = next-found begun line g.0 h deep (and-left _ _ whole) g.1 in
-    fault-behind bytes (second ∷ lines) (done + 1) g.0 fault good.stands good.depth (and-right (list_all no_line_feed line) _ whole)
+    let good = next-found begun line g.0 h deep (and_parts _ _ whole).0 g.1 in
+    fault-behind bytes (second ∷ lines) (done + 1) g.0 fault good.stands good.depth (and_parts (list_all no_line_feed line) _ whole).1
     (text ∙ ap (λ (z : List ℕ). spelling (rows_so_far begun) ++ z) (sym (append_assoc line (codes "\n") (joined (second ∷ lines)))) ∙ sym (append_assoc (spelling (rows_so_far begun)) (line ++ codes "\n") (joined (second ∷ lines)))
     ∙ ap (λ (z : List ℕ). z ++ joined (second ∷ lines)) (sym good.text))
     (ap (λ (n : ℕ). n + 1) count ∙ sym good.lines)
@@ -341,17 +341,17 @@ file-fault bytes fault h = subst (λ (z : List ℕ). IsFirstFault z fault.line f
     by [] some whole g = absurd (false≢true (sym some))
     by (line ∷ []) some whole g =
         ⊎_elim
-        (λ f. subst (λ (z : LineFault). IsFirstFault line z.line z.kind) (sym f.2) (first-whole line line [] f.0 (sym (append-nil line)) (and-left _ _ whole) refl (first-breaks line false f.0 f.1)))
+        (λ f. subst (λ (z : LineFault). IsFirstFault line z.line z.kind) (sym f.2) (first-whole line line [] f.0 (sym (append-nil line)) (and_parts _ _ whole).0 refl (first-breaks line false f.0 f.1)))
         (λ f. ok-err f.2)
         (first line false (rows_behind [] 1) (first_item line false) refl g)
     by (line ∷ second ∷ lines) some whole g =
         ⊎_elim
         (λ f. subst (λ (z : LineFault). IsFirstFault (joined (line ∷ second ∷ lines)) z.line z.kind) (sym f.2)
-        (first-whole (joined (line ∷ second ∷ lines)) line (10 ∷ joined (second ∷ lines)) f.0 refl (and-left _ _ whole) refl (first-breaks line true f.0 f.1)))
+        (first-whole (joined (line ∷ second ∷ lines)) line (10 ∷ joined (second ∷ lines)) f.0 refl (and_parts _ _ whole).0 refl (first-breaks line true f.0 f.1)))
         (λ f.
         let is = (first-inv line true f.0 f.1).1 in
         let text = row-found line f.0 is.row in
-        fault-behind (joined (line ∷ second ∷ lines)) (second ∷ lines) 1 (record { before = []; last = placed f.0 1 0 }) fault (first-stands line f.0 (and-left _ _ whole) is) (omega arith) (and-right (list_all no_line_feed line) _ whole)
+        fault-behind (joined (line ∷ second ∷ lines)) (second ∷ lines) 1 (record { before = []; last = placed f.0 1 0 }) fault (first-stands line f.0 (and_parts _ _ whole).0 is) (omega arith) (and_parts (list_all no_line_feed line) _ whole).1
         (sym (append_assoc line (codes "\n") (joined (second ∷ lines))) ∙ ap (λ (z : List ℕ). z ++ joined (second ∷ lines)) (sym (first-text line f.0 is)))
         (let none = ap length text.alone in let count = count-last [] (placed f.0 1 0) in omega (arith, none, count))
         f.2)

@@ -1,13 +1,13 @@
 -- What is read of a line is spelled so.
+use Rattle.std.proofs.lemmas.Bool.{and_parts, and_from}
 use Rattle.std.proofs.Common.{◌≡◌, ℕ, ◌≤◌, ◌==◌, ◌&&◌, ◌||◌, Bool, true, false, cond, not, nat_le, List, [], ◌∷◌, ◌++◌, length, flat_map, find, map, Option, Some, None, option_map, refl, ap, ap₂, sym, subst, ◌∙◌, arith, append-nil, length-append, codes, decimal, chars, bytes_eq, encode_utf8, encode_utf8_all}
 use Rattle.std.specs.List.{list_all, list_any}
 use Rattle.std.specs.Str.{is_utf8, all_scalars}
 use Rattle.std.proofs.lemmas.Str.{IsUtf8-from_is_utf8, encodes-chars, scalars-chars}
 use Rattle.tx_read.specs.Number.{number_at_most}
 use Rattle.tx_read.specs.Pieces.{behind}
-use Rattle.tx_tree.proofs.NameBytes.{and-left, and-right}
 use Rattle.tx_tree.specs.Kind.{kind_name}
-use Rattle.tx_tree.specs.Name.{is_name}
+use Rattle.tx_text.specs.Name.{is_name}
 use Rattle.tx_tree.specs.Row.{placed}
 use Rattle.tx_tree.specs.Spelled.{begins_capital, no_line_feed, key_is_spelled, kind_is_spelled, is_built_in, container_names, leaf_names, is_spelled}
 use Rattle.tx_tree.specs.declared.bind.Action.{Action}
@@ -19,7 +19,7 @@ use Rattle.tx_tree.specs.declared.kind.Kind.{Kind}
 use Rattle.tx_tree.specs.declared.kind.Kind.TheVariants.{Handed}
 use Rattle.tx_tree.specs.declared.kind.Private.{Private}
 use Rattle.tx_tree.specs.declared.row.NewRow.{NewRow}
-use Rattle.tx_tree_file.proofs.FoundParts.{map-inv, then-inv, if-inv, both, same_bytes, word_split, name-found, flag-found, id-found, class_list-found, private-found, number-found, text-found, inline-found}
+use Rattle.tx_tree_file.proofs.FoundParts.{map-inv, then-inv, if-inv, same_bytes, word_split, name-found, flag-found, id-found, class_list-found, private-found, number-found, text-found, inline-found}
 use Rattle.tx_tree_file.proofs.Fronts.{some-same, none-some, front_of}
 use Rattle.tx_tree_file.specs.Parts.{word, past_word, name_of, flag, built_in, or_handed, kind_of, id_of, classes_of, private_of, text_of, inline_of, named_keys, function_by, function_of, control_of, or_key, long_key, only_char, char_key, key_by, key_of, named_actions, or_toggle, action_of}
 use Rattle.tx_tree_file.specs.Spelling.{id_part, class_parts, disabled_part, private_part, escaped, text_part, inline_part, row_text, key_name, action_name, priority_part, bind_text}
@@ -42,10 +42,10 @@ find-found name f (x ∷ xs) y h = by (bytes_eq name (f x)) refl (find-found nam
 
 find-all : {A : Type 0} (p q : A → Bool) (xs : List A) (y : A) → list_all q xs ≡ true → find p xs ≡ Some y → q y ≡ true
 find-all p q [] y a h = none-some h
-find-all p q (x ∷ xs) y a h = by (p x) (find-all p q xs y (and-right _ _ a)) h
+find-all p q (x ∷ xs) y a h = by (p x) (find-all p q xs y (and_parts _ _ a).1) h
   where
     by : (b : Bool) → (find p xs ≡ Some y → q y ≡ true) → cond b (Some x) (find p xs) ≡ Some y → q y ≡ true
-    by true more g = ap q (sym (some-same g)) ∙ and-left _ _ a
+    by true more g = ap q (sym (some-same g)) ∙ (and_parts _ _ a).0
     by false more g = more g
 
 find-none : {A : Type 0} (name : List ℕ) (f : A → List ℕ) (xs : List A) → find (λ x. bytes_eq name (f x)) xs ≡ None → list_any (bytes_eq name) (map f xs) ≡ false
@@ -90,8 +90,8 @@ kind-found name kind h =
         let (good, same) = if-inv (is_name name && begins_capital name) (Some (Handed name)) kind g in
         subst (IsKind name) (some-same same) (record {
           text = refl;
-          spelled = both (begins_capital name) (not (is_built_in name)) (and-right _ _ good) (ap not (not_built_in name e));
-          typed = and-left _ _ good;
+          spelled = and_from (begins_capital name) (not (is_built_in name)) (and_parts _ _ good).1 (ap not (not_built_in name e));
+          typed = (and_parts _ _ good).0;
         })
 
 -- ---- rows
@@ -109,15 +109,15 @@ pub record IsRowText (bytes : List ℕ) (new : NewRow) : Type 0 where
 
 pub all-behind : {A : Type 0} (p : A → Bool) (xs ys : List A) → list_all p (xs ++ ys) ≡ true → list_all p ys ≡ true
 all-behind p [] ys h = h
-all-behind p (x ∷ xs) ys h = all-behind p xs ys (and-right (p x) _ h)
+all-behind p (x ∷ xs) ys h = all-behind p xs ys (and_parts (p x) _ h).1
 
 all-before : {A : Type 0} (p : A → Bool) (xs ys : List A) → list_all p (xs ++ ys) ≡ true → list_all p xs ≡ true
 all-before p [] ys h = refl
-all-before p (x ∷ xs) ys h = both (p x) (list_all p xs) (and-left _ _ h) (all-before p xs ys (and-right (p x) _ h))
+all-before p (x ∷ xs) ys h = and_from (p x) (list_all p xs) (and_parts _ _ h).0 (all-before p xs ys (and_parts (p x) _ h).1)
 
 no_feed_inside : (inline : List ℕ) → list_all no_line_feed (inline_part inline) ≡ true → list_all no_line_feed inline ≡ true
 no_feed_inside [] h = refl
-no_feed_inside (byte ∷ bytes) h = all-before no_line_feed (byte ∷ bytes) (codes "}") (and-right true _ (and-right true _ h))
+no_feed_inside (byte ∷ bytes) h = all-before no_line_feed (byte ∷ bytes) (codes "}") (and_parts true _ (and_parts true _ h).1).1
 
 pub row-found : (bytes : List ℕ) (new : NewRow) → row_of bytes ≡ Some new → IsRowText bytes new
 row-found bytes new h0 =
@@ -145,11 +145,11 @@ row-found bytes new h0 =
     let e1 = word_split bytes ∙ ap₂ (λ (x y : List ℕ). x ++ y) is_kind.text e2 in
     subst (IsRowText bytes) (some-same h6) (record {
       text = e1;
-      typed = both _ _ is_kind.typed (both _ _ is_id.1 (both _ _ are_classes.1 (both _ _ is_text.2 (both _ _ is_inline.1 refl))));
-      spelled = λ whole. both _ _ are_classes.2 (both _ _ is_kind.spelled (both _ _ is_text.1 (both _ _ (no_feed_inside inline
+      typed = and_from _ _ is_kind.typed (and_from _ _ is_id.1 (and_from _ _ are_classes.1 (and_from _ _ is_text.2 (and_from _ _ is_inline.1 refl))));
+      spelled = λ whole. and_from _ _ are_classes.2 (and_from _ _ is_kind.spelled (and_from _ _ is_text.1 (and_from _ _ (no_feed_inside inline
           (all-behind no_line_feed (text_part text.0) (inline_part inline) (all-behind no_line_feed (private_part (kept kind (length text.0) private.0)) _ (all-behind no_line_feed (disabled_part b) _
           (all-behind no_line_feed (class_parts classes.0) _ (all-behind no_line_feed (id_part id.0) _ (all-behind no_line_feed (kind_name kind) _ (ap (list_all no_line_feed) (sym e1) ∙ whole))))))))
-          (both _ _ refl (is_private.1.spelled (length text.0))))));
+          (and_from _ _ refl (is_private.1.spelled (length text.0))))));
       alone = refl;
       again = sym (is_private.1.again (length text.0));
     })
@@ -221,8 +221,8 @@ char-found name c key utf8 only h =
     let (good, same) = if-inv (key_is_spelled (Char c) && not (c == 32)) (Some (Char c)) key h in
     let one = only-found (chars name) c only in
     subst (IsKey name) (some-same same) (record {
-      text = sym (encodes-chars name (IsUtf8-from_is_utf8 name utf8)) ∙ ap encode_utf8_all one ∙ append-nil (encode_utf8 c) ∙ not-blank c (and-right _ _ good);
-      spelled = and-left _ _ good;
+      text = sym (encodes-chars name (IsUtf8-from_is_utf8 name utf8)) ∙ ap encode_utf8_all one ∙ append-nil (encode_utf8 c) ∙ not-blank c (and_parts _ _ good).1;
+      spelled = (and_parts _ _ good).0;
       typed = ap all_scalars (sym one) ∙ scalars-chars name (IsUtf8-from_is_utf8 name utf8);
     })
 
@@ -235,8 +235,8 @@ function-found name key h = by (behind (codes "f") name) refl h
         let (n, is, more) = then-inv (function_by digits) (number_at_most 12 digits) key g in
         let (good, same) = if-inv (bytes_eq (decimal n) digits && nat_le 1 n) (Some (Function n)) key more in
         subst (IsKey name) (some-same same) (record {
-          text = front_of (codes "f") name digits e ∙ ap (λ (z : List ℕ). codes "f" ++ z) (sym (same_bytes _ _ (and-left _ _ good)));
-          spelled = both _ _ (and-right _ _ good) (number-found 12 n digits is);
+          text = front_of (codes "f") name digits e ∙ ap (λ (z : List ℕ). codes "f" ++ z) (sym (same_bytes _ _ (and_parts _ _ good).0));
+          spelled = and_from _ _ (and_parts _ _ good).1 (number-found 12 n digits is);
           typed = refl;
         })
 
@@ -309,4 +309,4 @@ bind-found bytes bind h0 =
     let e3 = word_split (flag (codes "priority ") rest).1 ∙ ap₂ (λ (x y : List ℕ). x ++ y) is_key.text e4 in
     let e2 = flag-found (codes "priority ") rest ∙ ap₂ (λ (x y : List ℕ). x ++ y) (priority-part (flag (codes "priority ") rest).0) e3 in
     let e1 = front_of (codes "bind ") bytes rest front ∙ ap (λ (z : List ℕ). codes "bind " ++ z) e2 in
-    subst (IsBindText bytes) (some-same h4) (record { text = e1; spelled = is_key.spelled; typed = both _ _ is_key.typed is_action.1 })
+    subst (IsBindText bytes) (some-same h4) (record { text = e1; spelled = is_key.spelled; typed = and_from _ _ is_key.typed is_action.1 })

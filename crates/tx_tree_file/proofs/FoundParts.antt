@@ -1,4 +1,5 @@
 -- What is read of a part is spelled so.
+use Rattle.std.proofs.lemmas.Bool.{and_parts, and_from}
 use Rattle.std.proofs.Common.{◌≡◌, ℕ, zero, suc, ◌-◌, ◌==◌, ◌&&◌, Bool, true, false, cond, not, nat_le, List, [], ◌∷◌, ◌++◌, length, take, drop, flat_map, Option, Some, None, option_map, option_and_then, refl, ap, ap₂, sym, subst, ◌∙◌, arith, append_assoc, take-append-drop, codes, decimal, bytes_eq}
 use Rattle.std.specs.List.{list_all}
 use Rattle.std.specs.Str.{is_utf8}
@@ -6,8 +7,7 @@ use Rattle.std.proofs.lemmas.Slice.Eq.{bytes_eq-Decides}
 use Rattle.std.proofs.lemmas.Str.{is_utf8-from_IsUtf8, IsUtf8-nil}
 use Rattle.tx_read.specs.Number.{number_at_most}
 use Rattle.tx_read.specs.Pieces.{behind}
-use Rattle.tx_tree.proofs.NameBytes.{and-left, and-right}
-use Rattle.tx_tree.specs.Name.{is_name}
+use Rattle.tx_text.specs.Name.{is_name}
 use Rattle.tx_tree.specs.Spelled.{no_repeats, byte_is_spelled, private_is_spelled}
 use Rattle.tx_tree.specs.declared.kind.Kind.{Kind}
 use Rattle.tx_tree.specs.declared.kind.Kind.TheVariants.{Screen, Container, Vertical, Horizontal, Grid, VerticalScroll, Static, Label, Button, Checkbox, Input, OptionList, ProgressBar, Header, Footer, Handed}
@@ -31,10 +31,6 @@ then-inv f (Some x) y h = (x, refl, h)
 pub if-inv : {A : Type 0} (b : Bool) (o : Option A) (y : A) → cond b o None ≡ Some y → (b ≡ true) × (o ≡ Some y)
 if-inv true o y h = (refl, h)
 if-inv false o y h = none-some h
-
-pub both : (a b : Bool) → a ≡ true → b ≡ true → (a && b) ≡ true
-both true b e h = h
-both false b e h = e
 
 pub same_bytes : (xs ys : List ℕ) → bytes_eq xs ys ≡ true → xs ≡ ys
 same_bytes xs ys h = (bytes_eq-Decides xs ys).0 h
@@ -99,7 +95,7 @@ classes-found (suc n) bytes found h = by (behind (codes " .") bytes) refl (λ re
         let (spelled, typed) = more (past_word rest) f is in
         subst (Is bytes) same (
           worded (codes " .") bytes rest (word rest) e refl ∙ ap (λ (z : List ℕ). (codes " ." ++ word rest) ++ z) spelled ∙ sym (append_assoc (codes " ." ++ word rest) (class_parts f.0) f.1),
-          both (is_name (word rest)) (list_all is_name f.0) named typed,
+          and_from (is_name (word rest)) (list_all is_name f.0) named typed,
         )
 
 pub class_list-found : (bytes : List ℕ) (found : List (List ℕ) × List ℕ) → classes_of bytes ≡ Some found
@@ -123,17 +119,17 @@ on_part false = refl
 pub number-found : (limit n : ℕ) (digits : List ℕ) → number_at_most limit digits ≡ Some n → nat_le n limit ≡ true
 number-found limit n digits h =
     let (fits, same) = if-inv _ _ n h in
-    subst (λ (z : ℕ). nat_le z limit ≡ true) (some-same same) (and-right _ _ fits)
+    subst (λ (z : ℕ). nat_le z limit ≡ true) (some-same same) (and_parts _ _ fits).1
 
 pub total-found : (digits : List ℕ) (n : ℕ) → total_of digits ≡ Some n → (digits ≡ decimal n) × (nat_le 1 n ≡ true) × (nat_le n 1000000 ≡ true) × (not (n == 100) ≡ true)
 total-found digits n h =
     let (m, is, checked) = then-inv (λ (n : ℕ). cond (is_total digits n) (Some n) None) (number_at_most 1000000 digits) n h in
     let (good, same) = if-inv (is_total digits m) (Some m) n checked in
     subst (λ (z : ℕ). (digits ≡ decimal z) × (nat_le 1 z ≡ true) × (nat_le z 1000000 ≡ true) × (not (z == 100) ≡ true)) (some-same same) (
-      sym (same_bytes (decimal m) digits (and-left _ _ good)),
-      and-left _ _ (and-right _ _ good),
+      sym (same_bytes (decimal m) digits (and_parts _ _ good).0),
+      (and_parts _ _ (and_parts _ _ good).1).0,
       number-found 1000000 m digits is,
-      and-right _ _ (and-right _ _ good),
+      (and_parts _ _ (and_parts _ _ good).1).1,
     )
 
 other_total : (n : ℕ) → not (n == 100) ≡ true → private_part (Bar 0 n) ≡ codes " total " ++ decimal n
@@ -157,7 +153,7 @@ bar-found bytes found h = by (behind (codes " total ") bytes) refl h
         let (digits, least, most, other) = total-found (word rest) n is in
         subst Is same (
           worded (codes " total ") bytes rest (decimal n) e (sym digits) ∙ ap (λ (z : List ℕ). z ++ past_word rest) (sym (other_total n other)),
-          record { part = λ size. refl; spelled = λ size. both _ _ least most; again = λ size. refl },
+          record { part = λ size. refl; spelled = λ size. and_from _ _ least most; again = λ size. refl },
         )
 
 plain-found : (kind : Kind) (bytes : List ℕ) (found : Private × List ℕ) → IsState kind Plain → Some (Plain, bytes) ≡ Some found
@@ -207,7 +203,7 @@ put-inv (Some byte) rest found h =
     (byte, f, refl, is, same)
 
 itself : (byte : ℕ) → (byte == 34) ≡ false → (byte == 92) ≡ false → is_plain byte ≡ true → escaped byte ≡ byte ∷ []
-itself byte a b p = by (byte == 34) (byte == 92) (byte == 10) a b (and-right _ _ p)
+itself byte a b p = by (byte == 34) (byte == 92) (byte == 10) a b (and_parts _ _ p).1
   where
     by : (x y z : Bool) → x ≡ false → y ≡ false → not z ≡ true → cond x (codes "\\\"") (cond y (codes "\\\\") (cond z (codes "\\n") (byte ∷ []))) ≡ byte ∷ []
     by true y z a b c = absurd cc
@@ -223,7 +219,7 @@ one_more : (byte : ℕ) (front bytes : List ℕ) (f : List ℕ × List ℕ) → 
     → IsQuoted false (front ++ bytes) (byte ∷ f.0, f.1)
 one_more byte front bytes f e p h = (
   ap (λ (z : List ℕ). front ++ z) h.0 ∙ sym (append_assoc front (flat_map escaped f.0) (34 ∷ f.1)) ∙ ap (λ (z : List ℕ). (z ++ flat_map escaped f.0) ++ (34 ∷ f.1)) (sym e),
-  both (byte_is_spelled byte) (list_all byte_is_spelled f.0) p h.1,
+  and_from (byte_is_spelled byte) (list_all byte_is_spelled f.0) p h.1,
 )
 
 pub quoted-found : (escape : Bool) (bytes : List ℕ) (found : List ℕ × List ℕ) → quoted escape bytes ≡ Some found → IsQuoted escape bytes found
@@ -245,7 +241,7 @@ quoted-found false (byte ∷ bytes) found h = by (byte == 34) (byte == 92) (is_p
     by false false true e f g m n h =
         let (b, q, is, rest, same) = put-inv (Some byte) (quoted false bytes) found h in
         let this : byte ≡ b = some-same is in
-        subst (IsQuoted false (byte ∷ bytes)) (ap (λ (z : ℕ). (z ∷ q.0, q.1)) this ∙ same) (one_more byte (byte ∷ []) bytes q (itself byte e f g) (and-left _ _ g) (n q rest))
+        subst (IsQuoted false (byte ∷ bytes)) (ap (λ (z : ℕ). (z ∷ q.0, q.1)) this ∙ same) (one_more byte (byte ∷ []) bytes q (itself byte e f g) (and_parts _ _ g).0 (n q rest))
     by false false false e f g m n h = none-some h
 
 filled : (text : List ℕ) → not (length text == 0) ≡ true → (byte : ℕ) × (bytes : List ℕ) × (text ≡ byte ∷ bytes)
@@ -256,7 +252,7 @@ pub some_text-found : (bytes text : List ℕ) → some_text bytes ≡ Some text 
 some_text-found bytes text h =
     let (good, same) = if-inv (is_utf8 bytes && not (length bytes == 0)) (Some bytes) text h in
     let e : bytes ≡ text = some-same same in
-    (e, subst (λ (z : List ℕ). is_utf8 z ≡ true) e (and-left _ _ good), subst (λ (z : List ℕ). not (length z == 0) ≡ true) e (and-right _ _ good))
+    (e, subst (λ (z : List ℕ). is_utf8 z ≡ true) e (and_parts _ _ good).0, subst (λ (z : List ℕ). not (length z == 0) ≡ true) e (and_parts _ _ good).1)
 
 nil_utf8 : is_utf8 [] ≡ true
 nil_utf8 = is_utf8-from_IsUtf8 [] IsUtf8-nil

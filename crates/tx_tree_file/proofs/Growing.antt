@@ -1,4 +1,5 @@
 -- A row more, behind all others.
+use Rattle.std.proofs.lemmas.Bool.{and_parts, and_from}
 use Rattle.std.proofs.Common.{◌≡◌, ℕ, ◌+◌, ◌-◌, ◌<◌, ◌≤◌, ◌==◌, ◌||◌, Bool, true, false, cond, not, nat_le, nat_lt, List, [], ◌∷◌, ◌++◌, length, take, get_or, slice_index, Option, Some, None, Result, Ok, Err, refl, ap, sym, subst, subst₂, ◌∙◌, arith, append_assoc, length-append, length-take-le}
 use Rattle.std.specs.Option.{option_map_or}
 use Rattle.std.specs.List.{list_all}
@@ -7,9 +8,9 @@ use Rattle.std.proofs.Math.Seq.{get_or-append_seam}
 use Rattle.std.proofs.lemmas.Bool.{false≢true, leb-true, le-leb, lt-ltb, ltb-true, ltb-false, ne_eqb}
 use Rattle.std.proofs.lemmas.Bool.Decides.{Decides-eqb}
 use Rattle.tx_read.specs.Pieces.{pieces}
-use Rattle.tx_tree.proofs.NameBytes.{and-left, and-right}
 use Rattle.tx_tree.specs.Kind.{is_screen, holds_children}
-use Rattle.tx_tree.specs.Mount.{mount_refusal, refusal_below, mounted, is_taken, depth_of}
+use Rattle.tx_tree.specs.Mount.{mount_refusal, refusal_below, mounted, is_taken}
+use Rattle.tx_tree.specs.Rows.{depth_of}
 use Rattle.tx_tree.specs.Refusal.{Answers, AnswersAtOnce}
 use Rattle.tx_tree.specs.Row.{has_number, placed}
 use Rattle.tx_tree.specs.TreeValue.{TreeValue}
@@ -19,7 +20,6 @@ use Rattle.tx_tree.specs.declared.fault.TreeFault.{TreeFault}
 use Rattle.tx_tree.specs.declared.fault.TreeFault.TheVariants.{Grammar, NoNode, DuplicateId, TooMany, TooDeep, Root, Leaf, NotSiblings, NoMemory}
 use Rattle.tx_tree.specs.declared.row.NewRow.{NewRow}
 use Rattle.tx_tree.specs.declared.row.Row.{Row}
-use Rattle.tx_tree_file.proofs.FoundParts.{both}
 use Rattle.tx_tree_file.proofs.Fronts.{some-same, none-some}
 use Rattle.tx_tree_file.specs.FirstFault.{is_held}
 use Rattle.tx_tree_file.specs.Sections.{with_binds, rows_from, IsOpen, IsPath, IsGrown, IsMet, Leads}
@@ -31,7 +31,7 @@ use Rattle.tx_tree_file.specs.TreeReading.{Begun, LineFault, with_new, or_fault,
 from_front : (n : ℕ) (front : List Row) (row : Row) (below : List Row) → list_all (λ r. not (has_number n r)) front ≡ true → row.node.0 ≡ n
     → (before_of n (front ++ (row ∷ below)) ≡ front) × (from_of n (front ++ (row ∷ below)) ≡ row ∷ below) × (row_at n (front ++ (row ∷ below)) ≡ Some row)
 from_front n [] row below new e = let is = (Decides-eqb row.node.0 n).1 e in (rw is refl, rw is refl, rw is refl)
-from_front n (r ∷ front) row below new e = by (has_number n r) (and-left _ _ new) (from_front n front row below (and-right _ _ new) e)
+from_front n (r ∷ front) row below new e = by (has_number n r) (and_parts _ _ new).0 (from_front n front row below (and_parts _ _ new).1 e)
   where
     by : (b : Bool) → not b ≡ true → (before_of n (front ++ (row ∷ below)) ≡ front) × (from_of n (front ++ (row ∷ below)) ≡ row ∷ below) × (row_at n (front ++ (row ∷ below)) ≡ Some row)
         → (cond b [] (r ∷ before_of n (front ++ (row ∷ below))) ≡ r ∷ front) × (cond b (r ∷ (front ++ (row ∷ below))) (from_of n (front ++ (row ∷ below))) ≡ row ∷ below)
@@ -42,8 +42,8 @@ from_front n (r ∷ front) row below new e = by (has_number n r) (and-left _ _ n
 all_deeper : (depth : ℕ) (below : List Row) → list_all (λ r. nat_lt depth r.depth) below ≡ true → (deeper depth below ≡ below) × (past depth below ≡ [])
 all_deeper depth [] h = (refl, refl)
 all_deeper depth (r ∷ below) h =
-    let (a, b) = all_deeper depth below (and-right _ _ h) in
-    let first = and-left (nat_lt depth r.depth) _ h in (
+    let (a, b) = all_deeper depth below (and_parts _ _ h).1 in
+    let first = (and_parts (nat_lt depth r.depth) _ h).0 in (
       rw first (ap (λ (z : List Row). r ∷ z) a),
       rw first b,
     )
@@ -51,9 +51,9 @@ all_deeper depth (r ∷ below) h =
 above_below : (depth : ℕ) (row : Row) (below : List Row) → list_all (λ r. nat_lt depth r.depth) below ≡ true → last_above (depth + 1) (Some row) below ≡ Some row
 above_below depth row [] h = refl
 above_below depth row (r ∷ below) h =
-    let deeper = ltb-true depth r.depth (and-left _ _ h) in
+    let deeper = ltb-true depth r.depth (and_parts _ _ h).0 in
     let other : (r.depth + 1 == depth + 1) ≡ false = ne_eqb (r.depth + 1) (depth + 1) (λ same. absurd (omega (arith, deeper, same))) in
-    ap (λ (b : Bool). last_above (depth + 1) (cond b (Some r) (Some row)) below) other ∙ above_below depth row below (and-right _ _ h)
+    ap (λ (b : Bool). last_above (depth + 1) (cond b (Some r) (Some row)) below) other ∙ above_below depth row below (and_parts _ _ h).1
 
 pub above_front : (depth : ℕ) (found : Option Row) (front : List Row) (row : Row) (below : List Row) → row.depth ≡ depth → list_all (λ r. nat_lt depth r.depth) below ≡ true
     → last_above (depth + 1) found (front ++ (row ∷ below)) ≡ Some row
@@ -79,8 +79,8 @@ open-mounted rows depth n m new o =
     ∙ ap (λ (z : List Row). z ++ placed new m (depth + 1) ∷ []) (sym o.is)
 
 pub all-snoc : {A : Type 0} (p : A → Bool) (xs : List A) (x : A) → list_all p xs ≡ true → p x ≡ true → list_all p (xs ++ x ∷ []) ≡ true
-all-snoc p [] x h e = both (p x) true e refl
-all-snoc p (y ∷ xs) x h e = both (p y) (list_all p (xs ++ x ∷ [])) (and-left _ _ h) (all-snoc p xs x (and-right _ _ h) e)
+all-snoc p [] x h e = and_from (p x) true e refl
+all-snoc p (y ∷ xs) x h e = and_from (p y) (list_all p (xs ++ x ∷ [])) (and_parts _ _ h).0 (all-snoc p xs x (and_parts _ _ h).1 e)
 
 -- it stays open where a deeper row comes
 stays-open : (rows : List Row) (depth n : ℕ) (new : Row) → IsOpen rows depth n → depth < new.depth → IsOpen (rows ++ new ∷ []) depth n
@@ -99,14 +99,14 @@ stays-open rows depth n new o h = record {
 no-number : (n : ℕ) (rows : List Row) → list_all (λ row. nat_le row.node.0 n) rows ≡ true → list_all (λ r. not (has_number (n + 1) r)) rows ≡ true
 no-number n [] h = refl
 no-number n (row ∷ rows) h =
-    let most = leb-true row.node.0 n (and-left _ _ h) in
-    both _ _ (ap not (ne_eqb row.node.0 (n + 1) (λ same. absurd (omega (arith, most, same))))) (no-number n rows (and-right _ _ h))
+    let most = leb-true row.node.0 n (and_parts _ _ h).0 in
+    and_from _ _ (ap not (ne_eqb row.node.0 (n + 1) (λ same. absurd (omega (arith, most, same))))) (no-number n rows (and_parts _ _ h).1)
 
 pub more_numbers : (n m : ℕ) (rows : List Row) → n ≤ m → list_all (λ row. nat_le row.node.0 n) rows ≡ true → list_all (λ row. nat_le row.node.0 m) rows ≡ true
 more_numbers n m [] e h = refl
 more_numbers n m (row ∷ rows) e h =
-    let most = leb-true row.node.0 n (and-left _ _ h) in
-    both _ _ (le-leb row.node.0 m (omega (arith, most, e))) (more_numbers n m rows e (and-right _ _ h))
+    let most = leb-true row.node.0 n (and_parts _ _ h).0 in
+    and_from _ _ (le-leb row.node.0 m (omega (arith, most, e))) (more_numbers n m rows e (and_parts _ _ h).1)
 
 pub row_numbers : (n : ℕ) (rows : List Row) (row : Row) → list_all (λ r. nat_le r.node.0 n) rows ≡ true → row.node.0 ≡ n + 1 → list_all (λ r. nat_le r.node.0 (n + 1)) (rows ++ row ∷ []) ≡ true
 row_numbers n rows row h e = all-snoc (λ r. nat_le r.node.0 (n + 1)) rows row (more_numbers n (n + 1) rows (omega arith) h) (le-leb row.node.0 (n + 1) (omega (arith, e)))

@@ -1,11 +1,11 @@
 -- Reading on behind a last row.
+use Rattle.std.proofs.lemmas.Bool.{and_parts}
 use Rattle.std.proofs.Common.{◌≡◌, ℕ, ◌+◌, ◌*◌, ◌/◌, ◌%◌, ◌≤◌, ◌==◌, Bool, true, false, cond, not, List, [], ◌∷◌, ◌++◌, length, Option, Some, None, Result, Ok, Err, refl, ap, sym, subst, ◌∙◌, arith, append_assoc, ◌≢◌, leb-true}
 use Rattle.std.proofs.lemmas.Bool.{false≢true}
 use Rattle.std.proofs.lemmas.Bool.Decides.{Decides-eqb}
 use Rattle.tx_tree_file.proofs.Repeats.{not_true}
 use Rattle.std.specs.Str.{is_utf8}
 use Rattle.tx_read.specs.Pieces.{pieces, onto}
-use Rattle.tx_tree.proofs.NameBytes.{and-left, and-right}
 use Rattle.tx_tree.specs.Kind.{is_screen}
 use Rattle.tx_tree.specs.declared.bind.Bind.{Bind}
 use Rattle.tx_tree.specs.declared.fault.TreeFault.{TreeFault}
@@ -18,7 +18,7 @@ use Rattle.tx_tree_file.proofs.Fronts.{same-byte}
 use Rattle.tx_tree_file.proofs.FoundLines.{row-found}
 use Rattle.tx_tree_file.specs.Indent.{blanks, past_blanks, is_bind_line, may_stand}
 use Rattle.tx_tree_file.specs.Sections.{with_binds, IsWidget, Leads}
-use Rattle.tx_tree_file.specs.TreeReading.{Begun, binding, widget, bind_item, row_item, item_of, row_of, bind_of, with_bind, with_new, with_item, next_line, or_fault, is_empty, rows_behind, Tells}
+use Rattle.tx_tree_file.specs.TreeReading.{Begun, binding, widget, bind_item, row_item, item_of, row_of, bind_of, with_bind, with_new, with_item, next_line, or_fault, is_empty, rows_behind, GivesAt}
 use Rattle.tx_tree_file.specs.declared.line.Item.{Item}
 use Rattle.tx_tree_file.specs.declared.line.Item.TheVariants.{Binding, Widget}
 use Rattle.tx_tree_file.specs.declared.section.Met.{Met}
@@ -140,7 +140,7 @@ is_widget depth (Some new) item h = let (other, is) = ifs (is_screen new.kind) (
 pub stands-inv : (depth count : ℕ) → not (may_stand depth false count) ≡ false → (count % 2 ≡ 0) × (2 ≤ count) × (count ≤ 2 * (depth + 1))
 stands-inv depth count h =
     let good = not_true (may_stand depth false count) h in
-    (same-byte _ 0 (and-left _ _ good), leb-true 2 count (and-left _ _ (and-right _ _ good)), leb-true count (2 * (depth + 1)) (and-right _ _ (and-right _ _ good)))
+    (same-byte _ 0 (and_parts _ _ good).0, leb-true 2 count (and_parts _ _ (and_parts _ _ good).1).0, leb-true count (2 * (depth + 1)) (and_parts _ _ (and_parts _ _ good).1).1)
 
 -- a row line as it was read
 pub record IsRowItem (depth : ℕ) (line : List ℕ) (d : ℕ) (new : NewRow) : Type 0 where
@@ -220,34 +220,34 @@ Keeps depth all done left line binds =
     → rows_behind (pieces 10 all) done (record { before = before; last = last }) ≡ rows_behind (pieces 10 left) line (record { before = before; last = with_binds binds last })
 
 pub leads-fault : (depth done line : ℕ) (all left text behind : List ℕ) (binds : List Bind) (fault : TreeFault) → Keeps depth all done left line binds
-    → pieces 10 left ≡ text ∷ pieces 10 behind → Tells (line + 1) (item_of depth text true) (Err fault) → Leads depth all done (Err fault)
-leads-fault depth done line all left text behind binds NoMemory so cut tells = tt
-leads-fault depth done line all left text behind binds (Grammar number kind) so cut tells = λ before last e.
+    → pieces 10 left ≡ text ∷ pieces 10 behind → GivesAt (line + 1) (item_of depth text true) (Err fault) → Leads depth all done (Err fault)
+leads-fault depth done line all left text behind binds NoMemory so cut gives = tt
+leads-fault depth done line all left text behind binds (Grammar number kind) so cut gives = λ before last e.
     so before last e
-    ∙ fault_read left text behind line before (with_binds binds last) kind cut (ap (λ (d : ℕ). item_of d text true) e ∙ tells.1)
-    ∙ ap (λ (n : ℕ). Err (record { line = n; kind = kind })) (sym tells.0)
-leads-fault depth done line all left text behind binds NoNode so cut tells = absurd tells
-leads-fault depth done line all left text behind binds DuplicateId so cut tells = absurd tells
-leads-fault depth done line all left text behind binds TooMany so cut tells = absurd tells
-leads-fault depth done line all left text behind binds TooDeep' so cut tells = absurd tells
-leads-fault depth done line all left text behind binds Root so cut tells = absurd tells
-leads-fault depth done line all left text behind binds Leaf so cut tells = absurd tells
-leads-fault depth done line all left text behind binds NotSiblings so cut tells = absurd tells
+    ∙ fault_read left text behind line before (with_binds binds last) kind cut (ap (λ (d : ℕ). item_of d text true) e ∙ gives.1)
+    ∙ ap (λ (n : ℕ). Err (record { line = n; kind = kind })) (sym gives.0)
+leads-fault depth done line all left text behind binds NoNode so cut gives = absurd gives
+leads-fault depth done line all left text behind binds DuplicateId so cut gives = absurd gives
+leads-fault depth done line all left text behind binds TooMany so cut gives = absurd gives
+leads-fault depth done line all left text behind binds TooDeep' so cut gives = absurd gives
+leads-fault depth done line all left text behind binds Root so cut gives = absurd gives
+leads-fault depth done line all left text behind binds Leaf so cut gives = absurd gives
+leads-fault depth done line all left text behind binds NotSiblings so cut gives = absurd gives
 
 pub leads-last-fault : (depth done line : ℕ) (all left : List ℕ) (binds : List Bind) (fault : TreeFault) → Keeps depth all done left line binds
-    → (length left == 0) ≡ false → pieces 10 left ≡ left ∷ [] → Tells (line + 1) (item_of depth left false) (Err fault) → Leads depth all done (Err fault)
-leads-last-fault depth done line all left binds NoMemory so filled cut tells = tt
-leads-last-fault depth done line all left binds (Grammar number kind) so filled cut tells = λ before last e.
+    → (length left == 0) ≡ false → pieces 10 left ≡ left ∷ [] → GivesAt (line + 1) (item_of depth left false) (Err fault) → Leads depth all done (Err fault)
+leads-last-fault depth done line all left binds NoMemory so filled cut gives = tt
+leads-last-fault depth done line all left binds (Grammar number kind) so filled cut gives = λ before last e.
     so before last e
-    ∙ last_fault_read left line before (with_binds binds last) kind filled cut (ap (λ (d : ℕ). item_of d left false) e ∙ tells.1)
-    ∙ ap (λ (n : ℕ). Err (record { line = n; kind = kind })) (sym tells.0)
-leads-last-fault depth done line all left binds NoNode so filled cut tells = absurd tells
-leads-last-fault depth done line all left binds DuplicateId so filled cut tells = absurd tells
-leads-last-fault depth done line all left binds TooMany so filled cut tells = absurd tells
-leads-last-fault depth done line all left binds TooDeep' so filled cut tells = absurd tells
-leads-last-fault depth done line all left binds Root so filled cut tells = absurd tells
-leads-last-fault depth done line all left binds Leaf so filled cut tells = absurd tells
-leads-last-fault depth done line all left binds NotSiblings so filled cut tells = absurd tells
+    ∙ last_fault_read left line before (with_binds binds last) kind filled cut (ap (λ (d : ℕ). item_of d left false) e ∙ gives.1)
+    ∙ ap (λ (n : ℕ). Err (record { line = n; kind = kind })) (sym gives.0)
+leads-last-fault depth done line all left binds NoNode so filled cut gives = absurd gives
+leads-last-fault depth done line all left binds DuplicateId so filled cut gives = absurd gives
+leads-last-fault depth done line all left binds TooMany so filled cut gives = absurd gives
+leads-last-fault depth done line all left binds TooDeep' so filled cut gives = absurd gives
+leads-last-fault depth done line all left binds Root so filled cut gives = absurd gives
+leads-last-fault depth done line all left binds Leaf so filled cut gives = absurd gives
+leads-last-fault depth done line all left binds NotSiblings so filled cut gives = absurd gives
 
 pub keeps-bind : (depth done line : ℕ) (all left text behind : List ℕ) (binds : List Bind) (bind : Bind) → Keeps depth all done left line binds
     → pieces 10 left ≡ text ∷ pieces 10 behind → item_of depth text true ≡ Ok (Binding bind) → Keeps depth all done behind (line + 1) (binds ++ bind ∷ [])

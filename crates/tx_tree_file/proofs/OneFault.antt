@@ -1,9 +1,9 @@
 -- There is one first fault.
+use Rattle.std.proofs.lemmas.Bool.{and_parts}
 use Rattle.std.proofs.Common.{◌≡◌, ℕ, ◌+◌, ◌/◌, ◌≤◌, ◌==◌, Bool, true, false, cond, not, List, [], ◌∷◌, ◌++◌, length, Option, Some, None, Result, Ok, Err, refl, ap, sym, subst, ◌∙◌, arith, append-nil, ◌≢◌, ◌⊎◌, inl, inr}
 use Rattle.std.specs.List.{list_all}
 use Rattle.std.proofs.lemmas.Bool.{false≢true, ne_eqb}
 use Rattle.tx_read.specs.Pieces.{pieces, onto}
-use Rattle.tx_tree.proofs.NameBytes.{and-left, and-right}
 use Rattle.tx_tree.specs.Kind.{is_screen}
 use Rattle.tx_tree.specs.Mount.{is_taken}
 use Rattle.tx_tree.specs.Row.{placed}
@@ -39,8 +39,8 @@ use Rattle.tx_tree_file.proofs.Whole.{first-cut, screen-inv, bind_stands-inv}
 cut-last : (line : List ℕ) → list_all no_line_feed line ≡ true → pieces 10 line ≡ line ∷ []
 cut-last [] h = refl
 cut-last (b ∷ line) h =
-    let other : (b == 10) ≡ false = not_inv (b == 10) (and-left (no_line_feed b) _ h) in
-    ap (λ (x : Bool). cond x ([] ∷ pieces 10 line) (onto b (pieces 10 line))) other ∙ ap (onto b) (cut-last line (and-right (no_line_feed b) _ h))
+    let other : (b == 10) ≡ false = not_inv (b == 10) (and_parts (no_line_feed b) _ h).0 in
+    ap (λ (x : Bool). cond x ([] ∷ pieces 10 line) (onto b (pieces 10 line))) other ∙ ap (onto b) (cut-last line (and_parts (no_line_feed b) _ h).1)
 
 -- a binding's line
 record IsBindLine (begun : Begun) (line : List ℕ) (bind : Bind) : Type 0 where

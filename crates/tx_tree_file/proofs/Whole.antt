@@ -1,4 +1,5 @@
 -- What is read of a whole file is spelled so.
+use Rattle.std.proofs.lemmas.Bool.{and_parts, and_from}
 use Rattle.std.proofs.Common.{◌≡◌, ℕ, ◌+◌, ◌*◌, ◌/◌, ◌≤◌, ◌==◌, ◌&&◌, Bool, true, false, cond, not, List, [], ◌∷◌, ◌++◌, length, drop, replicate, flat_map, fold, Option, Some, None, Result, Ok, Err, refl, ap, ap₂, sym, subst, ◌∙◌, arith, append_assoc, append-nil, length-append, codes, add-one}
 use Rattle.std.specs.List.{list_all}
 use Rattle.std.specs.Option.{option_map_or}
@@ -6,12 +7,11 @@ use Rattle.std.specs.Str.{is_utf8}
 use Rattle.std.proofs.lemmas.Bool.{false≢true, eqb-true}
 use Rattle.std.proofs.lemmas.Grind.{flat_map-append}
 use Rattle.tx_read.specs.Pieces.{pieces, onto}
-use Rattle.tx_tree.proofs.NameBytes.{and-left, and-right}
 use Rattle.tx_tree.specs.Kind.{is_screen, holds_children}
 use Rattle.tx_tree.specs.Mount.{is_taken}
 use Rattle.tx_tree.specs.Row.{placed}
 use Rattle.tx_tree.specs.Rows.{last_above}
-use Rattle.tx_tree.specs.Name.{is_name}
+use Rattle.tx_text.specs.Name.{is_name}
 use Rattle.tx_tree.specs.Spelled.{is_spelled, key_is_spelled, no_line_feed, byte_is_spelled, no_repeats, kind_is_spelled, private_is_spelled}
 use Rattle.tx_tree.specs.WellFormed.{MayFollow, MayAllFollow, IsFirst, IsPreorder}
 use Rattle.tx_tree.specs.TreeValue.{TreeValue}
@@ -23,7 +23,6 @@ use Rattle.tx_tree.specs.declared.fault.TreeKind.TheVariants.{BadByte, BadIndent
 use Rattle.tx_tree.specs.declared.row.NewRow.{NewRow}
 use Rattle.tx_tree.specs.declared.row.Row.{Row}
 use Rattle.tx_tree_file.proofs.FoundLines.{row-found, bind-found, all-behind}
-use Rattle.tx_tree_file.proofs.FoundParts.{both}
 use Rattle.tx_tree_file.proofs.Fronts.{same-byte}
 use Rattle.tx_tree_file.proofs.Growing.{above_front, all-snoc}
 use Rattle.tx_tree_file.proofs.LastRows.{ok-same, err-ok, ifs, ended-inv, item-inv, is_bind, is_widget, IsRowItem, row_item-inv, other_than, some_piece}
@@ -32,7 +31,7 @@ use Rattle.tx_tree_file.specs.FirstFault.{ids_differ, is_held, line_count}
 use Rattle.tx_tree_file.specs.Indent.{blanks, past_blanks, is_bind_line, may_stand}
 use Rattle.tx_tree_file.specs.Spelling.{indent, row_text, row_line, bind_text, bind_line, row_lines, spelling}
 use Rattle.tx_tree_file.specs.TreeFile.{is_typed, bind_is_typed, kind_is_typed, id_is_typed, kept, read_row, read_again, IsReading}
-use Rattle.tx_tree_file.specs.TreeReading.{Begun, LineFault, screen, first_item, with_first, first_line, bind_item, row_item, item_of, row_of, bind_of, with_bind, with_new, with_item, next_line, or_fault, is_empty, rows_behind, rows_so_far, rows_of_lines, tree_of, Tells, FaultIs}
+use Rattle.tx_tree_file.specs.TreeReading.{Begun, LineFault, screen, first_item, with_first, first_line, bind_item, row_item, item_of, row_of, bind_of, with_bind, with_new, with_item, next_line, or_fault, is_empty, rows_behind, rows_so_far, rows_of_lines, tree_of, GivesAt, FaultIs}
 use Rattle.tx_tree_file.specs.declared.line.Item.{Item}
 use Rattle.tx_tree_file.specs.declared.line.Item.TheVariants.{Binding, Widget}
 
@@ -108,7 +107,7 @@ again-snoc n (r ∷ rows) row =
 pub ids-snoc : (before rows : List Row) (row : Row) → ids_differ before rows ≡ true → is_taken row.id (before ++ rows) ≡ false → ids_differ before (rows ++ row ∷ []) ≡ true
 ids-snoc before [] row h e = ap (λ (b : Bool). not b && true) (ap (is_taken row.id) (sym (append-nil before)) ∙ e)
 ids-snoc before (r ∷ rows) row h e =
-    both _ _ (and-left _ _ h) (ids-snoc (before ++ r ∷ []) rows row (and-right (not (is_taken r.id before)) _ h) (ap (is_taken row.id) (append_assoc before (r ∷ []) rows) ∙ e))
+    and_from _ _ (and_parts _ _ h).0 (ids-snoc (before ++ r ∷ []) rows row (and_parts (not (is_taken r.id before)) _ h).1 (ap (is_taken row.id) (append_assoc before (r ∷ []) rows) ∙ e))
 
 -- with a binding more
 change : (a x y : Bool) → (x ≡ true → y ≡ true) → (a && x) ≡ true → (a && y) ≡ true
@@ -123,9 +122,9 @@ typed-bind last bind h e =
 spelled-bind : (last : Row) (bind : Bind) → is_spelled last ≡ true → key_is_spelled bind.key ≡ true → is_spelled (with_bind bind last) ≡ true
 spelled-bind last bind h e =
     change (no_repeats last.classes.names) _ _ (change (kind_is_spelled last.kind) _ _ (change (list_all byte_is_spelled last.text) _ _ (change (list_all no_line_feed last.inline) _ _
-    (λ rest. both (list_all (λ bind. key_is_spelled bind.key) (last.binds ++ bind ∷ [])) (private_is_spelled last.kind last.private)
-    (all-snoc (λ bind. key_is_spelled bind.key) last.binds bind (and-left (list_all (λ bind. key_is_spelled bind.key) last.binds) _ rest) e)
-    (and-right (list_all (λ bind. key_is_spelled bind.key) last.binds) _ rest))))) h
+    (λ rest. and_from (list_all (λ bind. key_is_spelled bind.key) (last.binds ++ bind ∷ [])) (private_is_spelled last.kind last.private)
+    (all-snoc (λ bind. key_is_spelled bind.key) last.binds bind (and_parts (list_all (λ bind. key_is_spelled bind.key) last.binds) _ rest).0 e)
+    (and_parts (list_all (λ bind. key_is_spelled bind.key) last.binds) _ rest).1)))) h
 
 pub stands-bind : (begun : Begun) (bind : Bind) → Stands begun → bind_is_typed bind ≡ true → key_is_spelled bind.key ≡ true → Stands (record begun { last = with_bind bind begun.last })
 stands-bind begun bind h typed spelled = record {
@@ -356,8 +355,8 @@ pieces-whole (byte ∷ bytes) = by (byte == 10) refl (pieces 10 bytes) (pieces-w
   where
     by : (b : Bool) → (byte == 10) ≡ b → (ps : List (List ℕ)) → list_all (list_all no_line_feed) ps ≡ true → list_all (list_all no_line_feed) (cond b ([] ∷ ps) (onto byte ps)) ≡ true
     by true e ps h = h
-    by false e [] h = both _ _ (both _ _ (ap not e) refl) refl
-    by false e (p ∷ ps) h = both _ _ (both _ _ (ap not e) (and-left _ _ h)) (and-right (list_all no_line_feed p) _ h)
+    by false e [] h = and_from _ _ (and_from _ _ (ap not e) refl) refl
+    by false e (p ∷ ps) h = and_from _ _ (and_from _ _ (ap not e) (and_parts _ _ h).0) (and_parts (list_all no_line_feed p) _ h).1
 
 pub record IsWhole (begun : Begun) (lines : List (List ℕ)) (rows : List Row) : Type 0 where
   pub last : Begun
@@ -385,8 +384,8 @@ found-behind ((byte ∷ bytes) ∷ []) done begun rows h deep whole is =
     next-unended begun (byte ∷ bytes) next e
 found-behind (line ∷ second ∷ lines) done begun rows h deep whole is =
     let (next, e, more) = or-inv (done + 1) (next_line begun line true) (rows_behind (second ∷ lines) (done + 1)) rows is in
-    let good = next-found begun line next h deep (and-left _ _ whole) e in
-    let rest = found-behind (second ∷ lines) (done + 1) next rows good.stands good.depth (and-right (list_all no_line_feed line) _ whole) more in
+    let good = next-found begun line next h deep (and_parts _ _ whole).0 e in
+    let rest = found-behind (second ∷ lines) (done + 1) next rows good.stands good.depth (and_parts (list_all no_line_feed line) _ whole).1 more in
     record {
       last = rest.last;
       is = rest.is;
@@ -419,7 +418,7 @@ file-found bytes rows h = subst (λ (z : List ℕ). IsFoundFile z rows) (joined-
         let (new, f, same) = first (first_item line true) begun e in
         let is = (first-inv line true new f).1 in
         let start : Begun = record { before = []; last = placed new 1 0 } in
-        let rest = found-behind (second ∷ lines) 1 start rows (first-stands line new (and-left _ _ whole) is) (omega arith) (and-right (list_all no_line_feed line) _ whole) (ap (rows_behind (second ∷ lines) 1) (sym same) ∙ more) in
+        let rest = found-behind (second ∷ lines) 1 start rows (first-stands line new (and_parts _ _ whole).0 is) (omega arith) (and_parts (list_all no_line_feed line) _ whole).1 (ap (rows_behind (second ∷ lines) 1) (sym same) ∙ more) in
         record {
           last = rest.last;
           is = rest.is;
@@ -436,18 +435,18 @@ pub first-read : (bytes line rest : List ℕ) (new : NewRow) → pieces 10 bytes
     → rows_behind (pieces 10 rest) 1 (record { before = []; last = placed new 1 0 }) ≡ tree_of bytes
 first-read bytes line rest new cut is = sym (first-cut bytes line rest cut ∙ ap (λ (r : Result NewRow TreeKind). or_fault 1 (with_first r) (rows_behind (pieces 10 rest) 1)) is)
 
-pub first-fault : (bytes line rest : List ℕ) (fault : TreeFault) → pieces 10 bytes ≡ line ∷ pieces 10 rest → Tells 1 (first_item line true) (Err fault) → FaultIs (tree_of bytes) fault
-first-fault bytes line rest NoMemory cut tells = tt
-first-fault bytes line rest (Grammar number kind) cut tells =
-    first-cut bytes line rest cut ∙ ap (λ (r : Result NewRow TreeKind). or_fault 1 (with_first r) (rows_behind (pieces 10 rest) 1)) tells.1
-    ∙ ap (λ (n : ℕ). Err (record { line = n; kind = kind })) (sym tells.0)
-first-fault bytes line rest NoNode cut tells = absurd tells
-first-fault bytes line rest DuplicateId' cut tells = absurd tells
-first-fault bytes line rest TooMany' cut tells = absurd tells
-first-fault bytes line rest TooDeep' cut tells = absurd tells
-first-fault bytes line rest Root cut tells = absurd tells
-first-fault bytes line rest Leaf' cut tells = absurd tells
-first-fault bytes line rest NotSiblings cut tells = absurd tells
+pub first-fault : (bytes line rest : List ℕ) (fault : TreeFault) → pieces 10 bytes ≡ line ∷ pieces 10 rest → GivesAt 1 (first_item line true) (Err fault) → FaultIs (tree_of bytes) fault
+first-fault bytes line rest NoMemory cut gives = tt
+first-fault bytes line rest (Grammar number kind) cut gives =
+    first-cut bytes line rest cut ∙ ap (λ (r : Result NewRow TreeKind). or_fault 1 (with_first r) (rows_behind (pieces 10 rest) 1)) gives.1
+    ∙ ap (λ (n : ℕ). Err (record { line = n; kind = kind })) (sym gives.0)
+first-fault bytes line rest NoNode cut gives = absurd gives
+first-fault bytes line rest DuplicateId' cut gives = absurd gives
+first-fault bytes line rest TooMany' cut gives = absurd gives
+first-fault bytes line rest TooDeep' cut gives = absurd gives
+first-fault bytes line rest Root cut gives = absurd gives
+first-fault bytes line rest Leaf' cut gives = absurd gives
+first-fault bytes line rest NotSiblings cut gives = absurd gives
 
 -- ---- what a file stands for
 

@@ -3,7 +3,7 @@ use Rattle.std.specs.Prelude.{◌≡◌, ℕ, ◌+◌, ◌&&◌, Bool, true, Lis
 use Rattle.std.specs.List.{list_all}
 use Rattle.std.specs.Str.{is_utf8, all_scalars}
 use Rattle.tx_tree.specs.Kind.{fresh}
-use Rattle.tx_tree.specs.Name.{is_name}
+use Rattle.tx_text.specs.Name.{is_name}
 use Rattle.tx_tree.specs.Row.{plain}
 use Rattle.tx_tree.specs.Spelled.{is_spelled}
 use Rattle.tx_tree.specs.TreeValue.{TreeValue}

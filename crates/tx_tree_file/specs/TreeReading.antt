@@ -178,11 +178,11 @@ FaultIs read NoMemory = Unit {0}
 FaultIs read fault = ⊥
 
 -- the same of a line with this number
-abbrev pub Tells : {A : Type 0} → ℕ → Result A TreeKind → Result A TreeFault → Type 0
-Tells number read (Ok item) = read ≡ Ok item
-Tells number read (Err (Grammar line kind)) = (line ≡ number) × (read ≡ Err kind)
-Tells number read (Err NoMemory) = Unit {0}
-Tells number read (Err fault) = ⊥
+abbrev pub GivesAt : {A : Type 0} → ℕ → Result A TreeKind → Result A TreeFault → Type 0
+GivesAt number read (Ok item) = read ≡ Ok item
+GivesAt number read (Err (Grammar line kind)) = (line ≡ number) × (read ≡ Err kind)
+GivesAt number read (Err NoMemory) = Unit {0}
+GivesAt number read (Err fault) = ⊥
 
 -- the call gives the tree of these rows, of which all nodes were made, or this fault
 abbrev pub Reads : Result (List Row) LineFault → Result TreeValue TreeFault → Type 0

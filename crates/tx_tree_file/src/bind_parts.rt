@@ -5,9 +5,9 @@ ghost use Rattle.tx_tree_file.specs.Spelling.{key_name, action_name};
 ghost use Rattle.tx_tree_file.specs.Parts.{named_keys, function_by, function_of, control_of, long_key, only_char, char_key, key_of, named_actions, action_of};
 ghost use Rattle.tx_tree_file.specs.TreeReading.{bind_by, bind_of};
 
-use crate::words::{as_text, flag, name_of, split_word};
+use crate::words::{as_text, flag, split_word};
 use tx_read::{number_at_most, strip_prefix};
-use tx_tree::{Action, Bind, Jump, Key};
+use tx_tree::{Action, Bind, Jump, Key, Name};
 
 // The number of function keys.
 const MOST_FUNCTION: u32 = 12;
@@ -147,7 +147,7 @@ fn action_of(name: &[u8]) -> Option<Action>
     let Some(class) = strip_prefix(name, b"toggle_class ") else {
         return None;
     };
-    match name_of(class) {
+    match Name::of_bytes(class) {
         Some(class) => Some(Action::ToggleClass(class)),
         None => None,
     }

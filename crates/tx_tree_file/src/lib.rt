@@ -4,7 +4,6 @@
 mod bind_parts;
 pub mod laws;
 mod line;
-mod parts;
 mod read;
 mod row_parts;
 mod section;
@@ -12,6 +11,7 @@ mod section;
 mod tests;
 mod words;
 mod write;
+mod written_parts;
 
 pub use read::read_tree;
 pub use write::write_tree;

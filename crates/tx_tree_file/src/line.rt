@@ -2,9 +2,8 @@
 ghost use Rattle.std.specs.Prelude.{◌≡◌, ◌≤◌, ◌<◌, ◌^◌, true, IfOk, length};
 ghost use Rattle.tx_tree_file.specs.Indent.{blanks, past_blanks, starts_bind, may_stand};
 ghost use Rattle.tx_tree_file.specs.TreeFile.{kept};
-ghost use Rattle.tx_tree.specs.Kind.{is_screen};
 ghost use Rattle.tx_tree.specs.declared.fault.TreeFault.TheVariants.{Grammar};
-ghost use Rattle.tx_tree_file.specs.TreeReading.{row_of, bind_item, row_item, item_of, first_item, Tells};
+ghost use Rattle.tx_tree_file.specs.TreeReading.{row_of, bind_item, row_item, item_of, first_item, GivesAt};
 
 use crate::bind_parts::bind_of;
 use crate::row_parts::{classes_of, id_of, inline_of, kind_of, private_of, text_of};
@@ -123,7 +122,7 @@ fn may_stand(depth: u32, bind: bool, count: usize) -> bool
 }
 
 fn bind_item(text: &[u8], ended: bool, number: u32) -> Result<Item, TreeFault>
-    ensures { Tells number (bind_item text.now ended) result }
+    ensures { GivesAt number (bind_item text.now ended) result }
 {
     if !ended {
         return Err(fault(number, TreeKind::Expected));
@@ -143,7 +142,7 @@ fn row_item(
 ) -> Result<Item, TreeFault>
     requires few { count ≤ 128 }
     requires size { length text.now < 2 ^ 32 }
-    ensures tells { Tells number (row_item count text.now ended) result }
+    ensures gives { GivesAt number (row_item count text.now ended) result }
 {
     if count == TOO_MANY_BLANKS {
         return Err(fault(number, TreeKind::TooDeep));
@@ -154,16 +153,10 @@ fn row_item(
     let Some(row) = row_of(alloc, text)? else {
         return Err(fault(number, TreeKind::Expected));
     };
-    if is_screen(row.kind) {
+    if row.kind.is_screen() {
         return Err(fault(number, TreeKind::Expected));
     }
     Ok(Item::Widget((count / 2) as u32, row))
-}
-
-fn is_screen(kind: Kind) -> bool
-    ensures { result ≡ is_screen kind }
-{
-    matches!(kind, Kind::Screen)
 }
 
 /// What a line behind a row of this depth is: a binding, or another row. `ended` says that a line
@@ -177,7 +170,7 @@ pub fn item_of(
 ) -> Result<Item, TreeFault>
     requires deep { depth ≤ 63 }
     requires size { length line.now < 2 ^ 32 }
-    ensures tells { Tells number (item_of depth line.now ended) result }
+    ensures gives { GivesAt number (item_of depth line.now ended) result }
 {
     let Some(_) = as_text(line) else {
         return Err(fault(number, TreeKind::BadByte));
@@ -198,7 +191,7 @@ pub fn item_of(
 /// The row of the first line, which is the Screen.
 pub fn first_item(alloc: Global, line: &[u8], ended: bool) -> Result<NewRow, TreeFault>
     requires size { length line.now < 2 ^ 32 }
-    ensures tells { Tells 1 (first_item line.now ended) result }
+    ensures gives { GivesAt 1 (first_item line.now ended) result }
 {
     let Some(_) = as_text(line) else {
         return Err(fault(1, TreeKind::BadByte));
@@ -217,7 +210,7 @@ pub fn first_item(alloc: Global, line: &[u8], ended: bool) -> Result<NewRow, Tre
     let Some(row) = row_of(alloc, line)? else {
         return Err(fault(1, TreeKind::Expected));
     };
-    if !is_screen(row.kind) {
+    if !row.kind.is_screen() {
         return Err(fault(1, TreeKind::Expected));
     }
     Ok(row)

@@ -1,15 +1,15 @@
 //! The parts of a row line, each with the bytes behind it.
 ghost use Rattle.std.specs.Prelude.{◌≡◌, option_map, option_copied, not, find, bytes_eq, decimal, codes, false, IfOk};
 ghost use Rattle.tx_tree.specs.Kind.{kind_name};
-ghost use Rattle.tx_tree.specs.Spelled.{begins_capital, no_repeats};
+ghost use Rattle.tx_tree.specs.Spelled.{no_repeats};
 ghost use Rattle.tx_read.specs.Pieces.{behind};
 ghost use Rattle.tx_tree_file.specs.Parts.{built_in, kind_of, id_of, classes_of, total_of, is_total, private_of, bar_by, unescaped, is_plain, quoted, some_text, text_of, before_brace, inline_of};
 
-use crate::words::{as_text, flag, name_of, split_word};
+use crate::words::{as_text, flag, split_word};
 use std::alloc::{AllocError, Global};
 use std::collections::HashSet;
 use tx_read::{number_at_most, strip_prefix};
-use tx_tree::{Kind, Name, Private, Text};
+use tx_tree::{Kind, Name, Private, Text, begins_capital};
 
 // The greatest total of a progress bar.
 const MOST_TOTAL: u32 = 1_000_000;
@@ -37,15 +37,6 @@ fn built_in(name: &str) -> Option<Kind>
     }
 }
 
-fn begins_capital(bytes: &[u8]) -> bool
-    ensures { result ≡ begins_capital bytes.now }
-{
-    match bytes {
-        [first, ..] => first.is_ascii_uppercase(),
-        [] => false,
-    }
-}
-
 /// The kind that a word names: a built-in one, or else one that is handed in.
 pub fn kind_of(word: &[u8]) -> Option<Kind>
     ensures { result ≡ kind_of word.now }
@@ -56,7 +47,7 @@ pub fn kind_of(word: &[u8]) -> Option<Kind>
     if let Some(kind) = built_in(name) {
         return Some(kind);
     }
-    match name_of(word) {
+    match Name::of_bytes(word) {
         Some(name) if begins_capital(word) => Some(Kind::Handed(name)),
         _ => None,
     }
@@ -70,7 +61,7 @@ pub fn id_of(bytes: &[u8]) -> Option<(Option<Name>, &[u8])>
         return Some((None, bytes));
     };
     let (word, rest) = split_word(rest);
-    match name_of(word) {
+    match Name::of_bytes(word) {
         Some(name) => Some((Some(name), rest)),
         None => None,
     }
@@ -99,7 +90,7 @@ pub fn classes_of(alloc: Global, bytes: &[u8]) -> Result<Option<(Vec<Name>, &[u8
     let mut rest = bytes;
     while let Some(behind) = strip_prefix(rest, b" .") {
         let (word, next) = split_word(behind);
-        let Some(name) = name_of(word) else {
+        let Some(name) = Name::of_bytes(word) else {
             return Ok(None);
         };
         classes.push(name)?;
@@ -229,8 +220,7 @@ pub fn text_of(alloc: Global, bytes: &[u8]) -> Result<Option<(Text, &[u8])>, All
     ensures { IfOk result (λ r. option_map (λ found. (found.0, found.1.now)) r ≡ text_of bytes.now) }
 {
     let Some(rest) = strip_prefix(bytes, b" \"") else {
-        let text = Text::of(alloc, "")?;
-        return Ok(Some((text, bytes)));
+        return Ok(Some((Text::empty(alloc), bytes)));
     };
     let Some((text, rest)) = quoted(alloc, rest)? else {
         return Ok(None);
@@ -255,8 +245,7 @@ pub fn inline_of(alloc: Global, bytes: &[u8]) -> Result<Option<Text>, AllocError
         if !bytes.is_empty() {
             return Ok(None);
         }
-        let text = Text::of(alloc, "")?;
-        return Ok(Some(text));
+        return Ok(Some(Text::empty(alloc)));
     };
     match before_brace(rest) {
         Some(text) => some_text(alloc, text),

@@ -1,33 +1,12 @@
-ghost use Rattle.std.specs.Prelude.{◌≡◌, IfOk};
-
 mod reading;
 
 use crate::write_tree;
-use std::alloc::{AllocError, Global};
+use std::alloc::Global;
 use std::test::Fail;
+use tx_expect::expect;
 use tx_tree::{
     Action, Bind, Binds, Jump, Key, Kind, Name, Names, NewRow, NodeId, Private, Text, Tree,
 };
-
-fn expect(fine: bool, what: &'static str) -> Result<(), Fail> {
-    if fine { Ok(()) } else { Err(Fail::from(what)) }
-}
-
-/// A row of a kind, with nothing else.
-fn bare(alloc: Global, kind: Kind) -> Result<NewRow, AllocError>
-    ensures { IfOk result (λ row. row.kind ≡ kind) }
-{
-    Ok(NewRow {
-        kind,
-        id: None,
-        classes: Names::of(Vec::new(alloc)),
-        disabled: false,
-        text: Text::of(alloc, "")?,
-        inline: Text::of(alloc, "")?,
-        binds: Binds::of(Vec::new(alloc)),
-        private: Private::fresh(kind, 0),
-    })
-}
 
 fn bind(key: Key, action: Action, priority: bool) -> Bind {
     Bind {
@@ -39,16 +18,14 @@ fn bind(key: Key, action: Action, priority: bool) -> Bind {
 
 /// A Screen whose only child is this row.
 fn with_child(alloc: Global, row: NewRow) -> Result<Tree, Fail> {
-    let mut tree = Tree::of_screen(alloc, bare(alloc, Kind::Screen)?)?;
+    let mut tree = Tree::of_screen(alloc, NewRow::of(alloc, Kind::Screen))?;
     tree.mount(NodeId(1), row)?;
     Ok(tree)
 }
 
 /// The tree is written so.
 fn writes(alloc: Global, tree: &Tree, wanted: &str) -> Result<(), Fail> {
-    if !tree.spelled() {
-        return Err(Fail::from("the tree has no spelling"));
-    }
+    expect(tree.spelled(), "a spelling")?;
     let text = write_tree(alloc, tree)?;
     expect(text.as_slice() == wanted.as_bytes(), "the text")
 }
@@ -56,7 +33,7 @@ fn writes(alloc: Global, tree: &Tree, wanted: &str) -> Result<(), Fail> {
 #[test]
 fn each_part_is_written_in_its_place(rt: HostRuntime) -> Result<(), Fail> {
     let alloc = rt.alloc();
-    let mut row = bare(alloc, Kind::Static)?;
+    let mut row = NewRow::of(alloc, Kind::Static);
     row.id = Name::of("a");
     let classes = [
         Name::of("b-1").ok_or("a name")?,
@@ -97,7 +74,7 @@ fn states_are_written_where_they_differ(rt: HostRuntime) -> Result<(), Fail> {
         (Kind::OptionList, Private::Chosen(1), "OptionList"),
     ];
     for (kind, private, line) in cases {
-        let mut row = bare(alloc, kind)?;
+        let mut row = NewRow::of(alloc, kind);
         row.private = private;
         let tree = with_child(alloc, row)?;
         let wanted = format!(in alloc; "Screen\n  {line}\n")?;
@@ -117,10 +94,10 @@ fn bindings_stand_below_their_row(rt: HostRuntime) -> Result<(), Fail> {
         bind(Key::Function(12), Action::Scroll(Jump::PageDown), false),
         bind(Key::ShiftTab, Action::FocusPrevious, false),
     ];
-    let mut row = bare(alloc, Kind::Container)?;
+    let mut row = NewRow::of(alloc, Kind::Container);
     row.binds = Binds::of(binds.to_vec(alloc)?);
     let mut tree = with_child(alloc, row)?;
-    tree.mount(NodeId(2), bare(alloc, Kind::Label)?)?;
+    tree.mount(NodeId(2), NewRow::of(alloc, Kind::Label))?;
     writes(
         alloc,
         &tree,

@@ -1,11 +1,10 @@
 //! Words of a line, parted by blanks.
 ghost use Rattle.std.specs.Prelude.{◌≡◌, true, false, MatchOption};
 ghost use Rattle.std.specs.Str.{is_utf8};
-ghost use Rattle.tx_tree_file.specs.Parts.{word, past_word, name_of, flag};
+ghost use Rattle.tx_tree_file.specs.Parts.{word, past_word, flag};
 
 use std::str;
 use tx_read::strip_prefix;
-use tx_tree::Name;
 
 /// The bytes up to the first blank, and those from it on.
 pub fn split_word(bytes: &[u8]) -> (&[u8], &[u8])
@@ -26,16 +25,6 @@ pub fn as_text(bytes: &[u8]) -> Option<&str>
 {
     match str::from_utf8(bytes) {
         Ok(text) => Some(text),
-        Err(_) => None,
-    }
-}
-
-/// The name that the bytes spell.
-pub fn name_of(bytes: &[u8]) -> Option<Name>
-    ensures { result ≡ name_of bytes.now }
-{
-    match str::from_utf8(bytes) {
-        Ok(text) => Name::of(text),
         Err(_) => None,
     }
 }

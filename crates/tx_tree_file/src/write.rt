@@ -5,7 +5,7 @@ ghost use Rattle.tx_tree.specs.Spelled.{is_spelled};
 ghost use Rattle.tx_tree_file.specs.TreeFile.{bind_is_typed, line_is_typed, is_typed};
 ghost use Rattle.tx_tree_file.specs.Spelling.{row_line, bind_line, row_lines, spelling};
 
-use crate::parts::{
+use crate::written_parts::{
     push_action, push_bind_indent, push_classes, push_disabled, push_id, push_indent, push_inline,
     push_key, push_kind, push_priority, push_private, push_text,
 };
@@ -71,12 +71,8 @@ pub fn write_tree(alloc: Global, tree: &Tree) -> Result<Vec<u8>, NoMemory>
     ensures typed { OnOk result (list_all is_typed tree.now.rows ≡ true) }
 {
     let mut out = Vec::new(alloc);
-    let mut here = Some(tree.root());
-    while let Some(node) = here {
-        if let Some(row) = tree.row(node) {
-            push_row(&mut out, row)?;
-        }
-        here = tree.next(node);
+    for row in tree.walk() {
+        push_row(&mut out, row)?;
     }
     Ok(out)
 }

@@ -2,22 +2,11 @@
 use crate::{read_tree, write_tree};
 use std::alloc::Global;
 use std::test::Fail;
-use tx_tree::{Binds, Kind, Name, Names, NewRow, NodeId, Private, Text, Tree, TreeFault, TreeKind};
+use tx_expect::{each_line, expect};
+use tx_tree::{Kind, Name, NewRow, NodeId, Private, Tree, TreeFault};
 
 // Longer texts than this stand in no test.
 const LONGEST: usize = 10_000;
-
-fn kind_name(kind: TreeKind) -> &'static str {
-    match kind {
-        TreeKind::BadByte => "BadByte",
-        TreeKind::Expected => "Expected",
-        TreeKind::BadIndent => "BadIndent",
-        TreeKind::DuplicateId => "DuplicateId",
-        TreeKind::TooMany => "TooMany",
-        TreeKind::TooDeep => "TooDeep",
-        TreeKind::Leaf => "Leaf",
-    }
-}
 
 /// The text with a line feed for each slash, and a byte that is no UTF-8 for each tilde.
 fn text_of(alloc: Global, text: &str) -> Result<Vec<u8>, Fail> {
@@ -45,17 +34,12 @@ fn read(alloc: Global, bytes: &[u8]) -> Result<Result<Tree, TreeFault>, Fail> {
 fn outcome(alloc: Global, bytes: &[u8]) -> Result<String, Fail> {
     match read(alloc, bytes)? {
         Ok(tree) => {
-            if !tree.spelled() {
-                return Err(Fail::from("the tree has no spelling"));
-            }
+            expect(tree.spelled(), "a spelling")?;
             let written = write_tree(alloc, &tree)?;
             let same = written.as_slice() == bytes;
             Ok(String::from_str(alloc, if same { "ok" } else { "other" })?)
         }
-        Err(TreeFault::Grammar { line, kind }) => {
-            let name = kind_name(kind);
-            Ok(format!(in alloc; "{line} {name}")?)
-        }
+        Err(TreeFault::Grammar { line, kind }) => Ok(format!(in alloc; "{line} {kind:?}")?),
         Err(_) => Err(Fail::from("another fault")),
     }
 }
@@ -68,132 +52,439 @@ fn comes_out(alloc: Global, wanted: &str, bytes: &[u8]) -> Result<(), Fail> {
     Err(Fail::from(format!(in alloc; "{found}, not {wanted}")?))
 }
 
-/// Each line of the table is an outcome, a colon and a text.
-fn each_comes_out(alloc: Global, table: &str) -> Result<(), Fail> {
-    for case in table.lines() {
-        let Some((wanted, text)) = case.split_once(':') else {
-            return Err(Fail::from("a case without a colon"));
-        };
-        let bytes = text_of(alloc, text)?;
-        comes_out(alloc, wanted, &bytes)?;
-    }
-    Ok(())
+/// What comes out of a text.
+fn whole_text(alloc: Global, given: &str) -> Result<String, Fail> {
+    let bytes = text_of(alloc, given)?;
+    outcome(alloc, &bytes)
 }
 
-/// Each line of the table is an outcome, a colon and the second line of a text, which stands one
-/// step below the Screen.
-fn each_row_comes_out(alloc: Global, table: &str) -> Result<(), Fail> {
-    for case in table.lines() {
-        let Some((wanted, row)) = case.split_once(':') else {
-            return Err(Fail::from("a case without a colon"));
-        };
-        let text = format!(in alloc; "Screen\n  {row}\n")?;
-        comes_out(alloc, wanted, text.as_bytes())?;
-    }
-    Ok(())
+/// What comes out of a text by its second line, which stands one step below the Screen.
+fn second_line(alloc: Global, given: &str) -> Result<String, Fail> {
+    let text = format!(in alloc; "Screen\n  {given}\n")?;
+    outcome(alloc, text.as_bytes())
 }
 
 #[test]
 fn first_lines(rt: HostRuntime) -> Result<(), Fail> {
-    each_comes_out(
-        rt.alloc(),
-        "ok:Screen/\n1 Expected:\n1 Expected:/\n1 Expected:Screen\n1 Expected:Static/\n1 BadIndent: Screen/\n1 BadIndent:  Screen\n1 Expected:bind a focus_next/\n1 Expected:  bind a focus_next/\n1 BadIndent:  binds a focus_next/\n1 Expected:Screen /\n1 Expected:screen/\n1 Expected:Screens/\nok:Screen #s .a disabled \"t\" {x}/\n1 BadByte:~/\n1 BadByte: ~\n1 BadIndent: x",
+    let alloc = rt.alloc();
+    each_line(
+        "\
+Screen/ => ok\n\
+\x20=> 1 Expected\n\
+/ => 1 Expected\n\
+Screen => 1 Expected\n\
+Static/ => 1 Expected\n\
+\x20Screen/ => 1 BadIndent\n\
+\x20 Screen => 1 BadIndent\n\
+bind a focus_next/ => 1 Expected\n\
+\x20 bind a focus_next/ => 1 Expected\n\
+\x20 binds a focus_next/ => 1 BadIndent\n\
+Screen / => 1 Expected\n\
+screen/ => 1 Expected\n\
+Screens/ => 1 Expected\n\
+Screen #s .a disabled \"t\" {x}/ => ok\n\
+~/ => 1 BadByte\n\
+\x20~ => 1 BadByte\n\
+\x20x => 1 BadIndent",
+        |given| whole_text(alloc, given),
     )
 }
 
 #[test]
 fn indents(rt: HostRuntime) -> Result<(), Fail> {
-    each_comes_out(
-        rt.alloc(),
-        "ok:Screen/  Static/\n2 BadIndent:Screen/Static/\n2 BadIndent:Screen/ Static/\n2 BadIndent:Screen/   Static/\n2 BadIndent:Screen/    Static/\nok:Screen/  Vertical/    Static/\nok:Screen/  Vertical/    Static/  Static/\n3 BadIndent:Screen/  Vertical/      Static/\n4 BadIndent:Screen/  Vertical/    Grid/ Static/\n2 BadIndent:Screen//\n3 BadIndent:Screen/  Static//\n2 BadIndent:Screen/Screen/\n2 Expected:Screen/  Screen/\n2 BadIndent:Screen/\tStatic/\n2 Expected:Screen/  \tStatic/\n2 Expected:Screen/  /",
+    let alloc = rt.alloc();
+    each_line(
+        "\
+Screen/  Static/ => ok\n\
+Screen/Static/ => 2 BadIndent\n\
+Screen/ Static/ => 2 BadIndent\n\
+Screen/   Static/ => 2 BadIndent\n\
+Screen/    Static/ => 2 BadIndent\n\
+Screen/  Vertical/    Static/ => ok\n\
+Screen/  Vertical/    Static/  Static/ => ok\n\
+Screen/  Vertical/      Static/ => 3 BadIndent\n\
+Screen/  Vertical/    Grid/ Static/ => 4 BadIndent\n\
+Screen// => 2 BadIndent\n\
+Screen/  Static// => 3 BadIndent\n\
+Screen/Screen/ => 2 BadIndent\n\
+Screen/  Screen/ => 2 Expected\n\
+Screen/\tStatic/ => 2 BadIndent\n\
+Screen/  \tStatic/ => 2 Expected\n\
+Screen/  / => 2 Expected",
+        |given| whole_text(alloc, given),
     )
 }
 
 #[test]
 fn indents_of_bindings(rt: HostRuntime) -> Result<(), Fail> {
-    each_comes_out(
-        rt.alloc(),
-        "ok:Screen/  bind a focus_next/\n2 BadIndent:Screen/bind a focus_next/\n2 BadIndent:Screen/ bind a focus_next/\n2 BadIndent:Screen/    bind a focus_next/\nok:Screen/  Static/    bind a focus_next/\n3 BadIndent:Screen/  Static/  bind a focus_next/\n3 BadIndent:Screen/  Static/   bind a focus_next/\n3 BadIndent:Screen/  Static/      bind a focus_next/\nok:Screen/  bind a focus_next/  bind b focus_next/  Static/    bind a toggle_dark/  Static/\n4 BadIndent:Screen/  Vertical/    Static/    bind a focus_next/\n2 Expected:Screen/  bind/\n2 BadIndent:Screen/bind/\n2 Expected:Screen/  bindx a focus_next/\n2 BadIndent:Screen/    bindx a focus_next/",
+    let alloc = rt.alloc();
+    each_line(
+        "\
+Screen/  bind a focus_next/ => ok\n\
+Screen/bind a focus_next/ => 2 BadIndent\n\
+Screen/ bind a focus_next/ => 2 BadIndent\n\
+Screen/    bind a focus_next/ => 2 BadIndent\n\
+Screen/  Static/    bind a focus_next/ => ok\n\
+Screen/  Static/  bind a focus_next/ => 3 BadIndent\n\
+Screen/  Static/   bind a focus_next/ => 3 BadIndent\n\
+Screen/  Static/      bind a focus_next/ => 3 BadIndent\n\
+Screen/  bind a focus_next/  bind b focus_next/  Static/    bind a toggle_dark/  Static/ => ok\n\
+Screen/  Vertical/    Static/    bind a focus_next/ => 4 BadIndent\n\
+Screen/  bind/ => 2 Expected\n\
+Screen/bind/ => 2 BadIndent\n\
+Screen/  bindx a focus_next/ => 2 Expected\n\
+Screen/    bindx a focus_next/ => 2 BadIndent",
+        |given| whole_text(alloc, given),
     )
 }
 
 #[test]
 fn last_lines(rt: HostRuntime) -> Result<(), Fail> {
-    each_comes_out(
-        rt.alloc(),
-        "2 Expected:Screen/  Static\n2 Expected:Screen/  bind a focus_next\n2 BadIndent:Screen/ Static\n2 BadIndent:Screen/Static\n2 BadIndent:Screen/bind a focus_next\n2 BadByte:Screen/ ~\n2 Expected:Screen/  \n3 Expected:Screen/  Static/    Label\n2 Expected:Screen #a/  Static #a",
+    let alloc = rt.alloc();
+    each_line(
+        "\
+Screen/  Static => 2 Expected\n\
+Screen/  bind a focus_next => 2 Expected\n\
+Screen/ Static => 2 BadIndent\n\
+Screen/Static => 2 BadIndent\n\
+Screen/bind a focus_next => 2 BadIndent\n\
+Screen/ ~ => 2 BadByte\n\
+Screen/   => 2 Expected\n\
+Screen/  Static/    Label => 3 Expected\n\
+Screen #a/  Static #a => 2 Expected",
+        |given| whole_text(alloc, given),
     )
 }
 
 #[test]
 fn kinds_of_rows(rt: HostRuntime) -> Result<(), Fail> {
-    each_row_comes_out(
-        rt.alloc(),
-        "ok:Container\nok:Vertical\nok:Horizontal\nok:Grid\nok:VerticalScroll\nok:Static\nok:Label\nok:Button\nok:Checkbox\nok:Input\nok:OptionList\nok:ProgressBar\nok:Header\nok:Footer\nok:Meter\nok:Statics\nok:M-_9\nok:Maaaaaaaaaaaaaaaaaaaaaaaaaaaaaaaaaaaaaaaaaaaaaaaaaaaaaaaaaaaaaaa\n2 Expected:Maaaaaaaaaaaaaaaaaaaaaaaaaaaaaaaaaaaaaaaaaaaaaaaaaaaaaaaaaaaaaaaa\n2 Expected:meter\n2 Expected:_Meter\n2 Expected:9\n2 Expected:M.a\n2 Expected:M a\n2 Expected:Screen\n2 Expected:Äpfel\n2 Expected:",
+    let alloc = rt.alloc();
+    each_line(
+        "\
+Container => ok\n\
+Vertical => ok\n\
+Horizontal => ok\n\
+Grid => ok\n\
+VerticalScroll => ok\n\
+Static => ok\n\
+Label => ok\n\
+Button => ok\n\
+Checkbox => ok\n\
+Input => ok\n\
+OptionList => ok\n\
+ProgressBar => ok\n\
+Header => ok\n\
+Footer => ok\n\
+Meter => ok\n\
+Statics => ok\n\
+M-_9 => ok\n\
+Maaaaaaaaaaaaaaaaaaaaaaaaaaaaaaaaaaaaaaaaaaaaaaaaaaaaaaaaaaaaaaa => ok\n\
+Maaaaaaaaaaaaaaaaaaaaaaaaaaaaaaaaaaaaaaaaaaaaaaaaaaaaaaaaaaaaaaaa => 2 Expected\n\
+meter => 2 Expected\n\
+_Meter => 2 Expected\n\
+9 => 2 Expected\n\
+M.a => 2 Expected\n\
+M a => 2 Expected\n\
+Screen => 2 Expected\n\
+Äpfel => 2 Expected\n\
+\x20=> 2 Expected",
+        |given| second_line(alloc, given),
     )
 }
 
 #[test]
 fn ids_and_classes(rt: HostRuntime) -> Result<(), Fail> {
-    each_row_comes_out(
-        rt.alloc(),
-        "ok:Static #a\nok:Static #_-9 ._ .b-2\nok:Static .a .b .c\nok:Static #a .a\n2 Expected:Static #\n2 Expected:Static  #a\n2 Expected:Static #1\n2 Expected:Static #a \n2 Expected:Static #a #b\n2 Expected:Static .a #b\n2 Expected:Static #a.b\n2 Expected:Static .a .a\n2 Expected:Static .a .b .a\n2 Expected:Static .\n2 Expected:Static .a.b\n2 Expected:Static . a\n2 Expected:Static.a\n2 Expected:Static a\n2 Expected:#a",
+    let alloc = rt.alloc();
+    each_line(
+        "\
+Static #a => ok\n\
+Static #_-9 ._ .b-2 => ok\n\
+Static .a .b .c => ok\n\
+Static #a .a => ok\n\
+Static # => 2 Expected\n\
+Static  #a => 2 Expected\n\
+Static #1 => 2 Expected\n\
+Static #a  => 2 Expected\n\
+Static #a #b => 2 Expected\n\
+Static .a #b => 2 Expected\n\
+Static #a.b => 2 Expected\n\
+Static .a .a => 2 Expected\n\
+Static .a .b .a => 2 Expected\n\
+Static . => 2 Expected\n\
+Static .a.b => 2 Expected\n\
+Static . a => 2 Expected\n\
+Static.a => 2 Expected\n\
+Static a => 2 Expected\n\
+#a => 2 Expected",
+        |given| second_line(alloc, given),
     )
 }
 
 #[test]
 fn states(rt: HostRuntime) -> Result<(), Fail> {
-    each_row_comes_out(
-        rt.alloc(),
-        "ok:Static disabled\nok:Checkbox on\nok:Checkbox disabled on\nok:Button #a .b disabled\nok:ProgressBar total 1\nok:ProgressBar total 99\nok:ProgressBar total 101\nok:ProgressBar total 1000000\nok:ProgressBar disabled total 40\n2 Expected:Static disabled disabled\n2 Expected:Static disabled .a\n2 Expected:Static disabledx\n2 Expected:Static  disabled\n2 Expected:Static on\n2 Expected:Input on\n2 Expected:Checkbox off\n2 Expected:Checkbox on on\n2 Expected:Checkbox on disabled\n2 Expected:Checkbox ona\n2 Expected:ProgressBar total 100\n2 Expected:ProgressBar total 0\n2 Expected:ProgressBar total 040\n2 Expected:ProgressBar total 1000001\n2 Expected:ProgressBar total 4294967336\n2 Expected:ProgressBar total\n2 Expected:ProgressBar total \n2 Expected:ProgressBar total -1\n2 Expected:ProgressBar total 4 0\n2 Expected:ProgressBar total 4x\n2 Expected:Static total 40\n2 Expected:Checkbox total 40\n2 Expected:ProgressBar on",
+    let alloc = rt.alloc();
+    each_line(
+        "\
+Static disabled => ok\n\
+Checkbox on => ok\n\
+Checkbox disabled on => ok\n\
+Button #a .b disabled => ok\n\
+ProgressBar total 1 => ok\n\
+ProgressBar total 99 => ok\n\
+ProgressBar total 101 => ok\n\
+ProgressBar total 1000000 => ok\n\
+ProgressBar disabled total 40 => ok\n\
+Static disabled disabled => 2 Expected\n\
+Static disabled .a => 2 Expected\n\
+Static disabledx => 2 Expected\n\
+Static  disabled => 2 Expected\n\
+Static on => 2 Expected\n\
+Input on => 2 Expected\n\
+Checkbox off => 2 Expected\n\
+Checkbox on on => 2 Expected\n\
+Checkbox on disabled => 2 Expected\n\
+Checkbox ona => 2 Expected\n\
+ProgressBar total 100 => 2 Expected\n\
+ProgressBar total 0 => 2 Expected\n\
+ProgressBar total 040 => 2 Expected\n\
+ProgressBar total 1000001 => 2 Expected\n\
+ProgressBar total 4294967336 => 2 Expected\n\
+ProgressBar total => 2 Expected\n\
+ProgressBar total  => 2 Expected\n\
+ProgressBar total -1 => 2 Expected\n\
+ProgressBar total 4 0 => 2 Expected\n\
+ProgressBar total 4x => 2 Expected\n\
+Static total 40 => 2 Expected\n\
+Checkbox total 40 => 2 Expected\n\
+ProgressBar on => 2 Expected",
+        |given| second_line(alloc, given),
     )
 }
 
 #[test]
 fn texts(rt: HostRuntime) -> Result<(), Fail> {
-    each_row_comes_out(
-        rt.alloc(),
-        "ok:Static \"a\"\nok:Static \"a b  c\"\nok:Static \"\\\"\"\nok:Static \"\\\\\"\nok:Static \"a\\nb\"\nok:Static \"\\\\n\"\nok:Static \"\t\"\nok:Static \"\x7f\"\nok:Static \"#a .b on {c}\"\nok:Static #a .b disabled \"c\"\nok:Checkbox on \"c\"\nok:Static \"世\"\n2 Expected:Static \"\"\n2 Expected:Static \"a\n2 Expected:Static \"\n2 Expected:Static \"a\\\"\n2 Expected:Static \"\\t\"\n2 Expected:Static \"\\x\"\n2 Expected:Static \"\\\"\n2 Expected:Static \"\x01\"\n2 Expected:Static \"\x1f\"\n2 Expected:Static \"a\"b\n2 Expected:Static \"a\" \"b\"\n2 Expected:Static  \"a\"\n2 Expected:Static\"a\"\n2 Expected:Static \"a\" #b\n2 Expected:Static \"a\" \n2 Expected:Static a\"",
+    let alloc = rt.alloc();
+    each_line(
+        "\
+Static \"a\" => ok\n\
+Static \"a b  c\" => ok\n\
+Static \"\\\"\" => ok\n\
+Static \"\\\\\" => ok\n\
+Static \"a\\nb\" => ok\n\
+Static \"\\\\n\" => ok\n\
+Static \"\t\" => ok\n\
+Static \"\x7f\" => ok\n\
+Static \"#a .b on {c}\" => ok\n\
+Static #a .b disabled \"c\" => ok\n\
+Checkbox on \"c\" => ok\n\
+Static \"世\" => ok\n\
+Static \"\" => 2 Expected\n\
+Static \"a => 2 Expected\n\
+Static \" => 2 Expected\n\
+Static \"a\\\" => 2 Expected\n\
+Static \"\\t\" => 2 Expected\n\
+Static \"\\x\" => 2 Expected\n\
+Static \"\\\" => 2 Expected\n\
+Static \"\x01\" => 2 Expected\n\
+Static \"\x1f\" => 2 Expected\n\
+Static \"a\"b => 2 Expected\n\
+Static \"a\" \"b\" => 2 Expected\n\
+Static  \"a\" => 2 Expected\n\
+Static\"a\" => 2 Expected\n\
+Static \"a\" #b => 2 Expected\n\
+Static \"a\"  => 2 Expected\n\
+Static a\" => 2 Expected",
+        |given| second_line(alloc, given),
     )
 }
 
 #[test]
 fn inline_texts(rt: HostRuntime) -> Result<(), Fail> {
-    each_row_comes_out(
-        rt.alloc(),
-        "ok:Static {a}\nok:Static {a}}\nok:Static {{a}\nok:Static { }\nok:Static {;}\nok:Static {\"}\nok:Static {\x01}\nok:Static {a} {b}\nok:Static \"t\" {i}\nok:ProgressBar total 7 {i}\nok:Static {世}\n2 Expected:Static {}\n2 Expected:Static {a\n2 Expected:Static {a} \n2 Expected:Static {\n2 Expected:Static {a} \"t\"\n2 Expected:Static  {a}\n2 Expected:Static{a}\n2 Expected:Static \"t\"{a}\n2 Expected:Static \"t\"  {a}\n2 Expected:Static a}",
+    let alloc = rt.alloc();
+    each_line(
+        "\
+Static {a} => ok\n\
+Static {a}} => ok\n\
+Static {{a} => ok\n\
+Static { } => ok\n\
+Static {;} => ok\n\
+Static {\"} => ok\n\
+Static {\x01} => ok\n\
+Static {a} {b} => ok\n\
+Static \"t\" {i} => ok\n\
+ProgressBar total 7 {i} => ok\n\
+Static {世} => ok\n\
+Static {} => 2 Expected\n\
+Static {a => 2 Expected\n\
+Static {a}  => 2 Expected\n\
+Static { => 2 Expected\n\
+Static {a} \"t\" => 2 Expected\n\
+Static  {a} => 2 Expected\n\
+Static{a} => 2 Expected\n\
+Static \"t\"{a} => 2 Expected\n\
+Static \"t\"  {a} => 2 Expected\n\
+Static a} => 2 Expected",
+        |given| second_line(alloc, given),
     )
 }
 
 #[test]
 fn keys(rt: HostRuntime) -> Result<(), Fail> {
-    each_row_comes_out(
-        rt.alloc(),
-        "ok:bind space focus_next\nok:bind enter focus_next\nok:bind escape focus_next\nok:bind tab focus_next\nok:bind shift+tab focus_next\nok:bind backspace focus_next\nok:bind delete focus_next\nok:bind up focus_next\nok:bind down focus_next\nok:bind left focus_next\nok:bind right focus_next\nok:bind home focus_next\nok:bind end focus_next\nok:bind pageup focus_next\nok:bind pagedown focus_next\nok:bind f1 focus_next\nok:bind f9 focus_next\nok:bind f10 focus_next\nok:bind f12 focus_next\nok:bind ctrl+a focus_next\nok:bind ctrl+z focus_next\nok:bind a focus_next\nok:bind f focus_next\nok:bind Z focus_next\nok:bind { focus_next\nok:bind \" focus_next\nok:bind # focus_next\nok:bind + focus_next\nok:bind é focus_next\nok:bind 世 focus_next\nok:bind \u{a0} focus_next\nok:bind \\ focus_next\n2 Expected:bind  focus_next\n2 Expected:bind aa focus_next\n2 Expected:bind Space focus_next\n2 Expected:bind f0 focus_next\n2 Expected:bind f13 focus_next\n2 Expected:bind f01 focus_next\n2 Expected:bind f123 focus_next\n2 Expected:bind F1 focus_next\n2 Expected:bind ctrl+ focus_next\n2 Expected:bind ctrl+A focus_next\n2 Expected:bind ctrl+aa focus_next\n2 Expected:bind ctrl+1 focus_next\n2 Expected:bind shift+a focus_next\n2 Expected:bind plus focus_next\n2 Expected:bind \x7f focus_next\n2 Expected:bind \u{80} focus_next\n2 Expected:bind \u{9f} focus_next\n2 Expected:bind \x01 focus_next\n2 Expected:bind éa focus_next\nok:bind priority a focus_next\nok:bind p focus_next\n2 Expected:bind priority focus_next\n2 Expected:bind priority priority a focus_next\n2 Expected:bind  a focus_next\n2 Expected:bind priority  a focus_next",
+    let alloc = rt.alloc();
+    each_line(
+        "\
+bind space focus_next => ok\n\
+bind enter focus_next => ok\n\
+bind escape focus_next => ok\n\
+bind tab focus_next => ok\n\
+bind shift+tab focus_next => ok\n\
+bind backspace focus_next => ok\n\
+bind delete focus_next => ok\n\
+bind up focus_next => ok\n\
+bind down focus_next => ok\n\
+bind left focus_next => ok\n\
+bind right focus_next => ok\n\
+bind home focus_next => ok\n\
+bind end focus_next => ok\n\
+bind pageup focus_next => ok\n\
+bind pagedown focus_next => ok\n\
+bind f1 focus_next => ok\n\
+bind f9 focus_next => ok\n\
+bind f10 focus_next => ok\n\
+bind f12 focus_next => ok\n\
+bind ctrl+a focus_next => ok\n\
+bind ctrl+z focus_next => ok\n\
+bind a focus_next => ok\n\
+bind f focus_next => ok\n\
+bind Z focus_next => ok\n\
+bind { focus_next => ok\n\
+bind \" focus_next => ok\n\
+bind # focus_next => ok\n\
+bind + focus_next => ok\n\
+bind é focus_next => ok\n\
+bind 世 focus_next => ok\n\
+bind \u{a0} focus_next => ok\n\
+bind \\ focus_next => ok\n\
+bind  focus_next => 2 Expected\n\
+bind aa focus_next => 2 Expected\n\
+bind Space focus_next => 2 Expected\n\
+bind f0 focus_next => 2 Expected\n\
+bind f13 focus_next => 2 Expected\n\
+bind f01 focus_next => 2 Expected\n\
+bind f123 focus_next => 2 Expected\n\
+bind F1 focus_next => 2 Expected\n\
+bind ctrl+ focus_next => 2 Expected\n\
+bind ctrl+A focus_next => 2 Expected\n\
+bind ctrl+aa focus_next => 2 Expected\n\
+bind ctrl+1 focus_next => 2 Expected\n\
+bind shift+a focus_next => 2 Expected\n\
+bind plus focus_next => 2 Expected\n\
+bind \x7f focus_next => 2 Expected\n\
+bind \u{80} focus_next => 2 Expected\n\
+bind \u{9f} focus_next => 2 Expected\n\
+bind \x01 focus_next => 2 Expected\n\
+bind éa focus_next => 2 Expected\n\
+bind priority a focus_next => ok\n\
+bind p focus_next => ok\n\
+bind priority focus_next => 2 Expected\n\
+bind priority priority a focus_next => 2 Expected\n\
+bind  a focus_next => 2 Expected\n\
+bind priority  a focus_next => 2 Expected",
+        |given| second_line(alloc, given),
     )
 }
 
 #[test]
 fn actions(rt: HostRuntime) -> Result<(), Fail> {
-    each_row_comes_out(
-        rt.alloc(),
-        "ok:bind a focus_next\nok:bind a focus_previous\nok:bind a toggle_dark\nok:bind a scroll_up\nok:bind a scroll_down\nok:bind a scroll_home\nok:bind a scroll_end\nok:bind a page_up\nok:bind a page_down\nok:bind a toggle_class a\nok:bind a toggle_class _-9\nok:bind priority f1 toggle_class a\n2 Expected:bind a\n2 Expected:bind a \n2 Expected:bind a\n2 Expected:bind a focus\n2 Expected:bind a focus_next \n2 Expected:bind a focus_next x\n2 Expected:bind a  focus_next\n2 Expected:bind a toggle_class\n2 Expected:bind a toggle_class \n2 Expected:bind a toggle_class 1\n2 Expected:bind a toggle_class a b\n2 Expected:bind a toggle_class .a\n2 Expected:bind a scroll_left\n2 Expected:bind a Focus_next",
+    let alloc = rt.alloc();
+    each_line(
+        "\
+bind a focus_next => ok\n\
+bind a focus_previous => ok\n\
+bind a toggle_dark => ok\n\
+bind a scroll_up => ok\n\
+bind a scroll_down => ok\n\
+bind a scroll_home => ok\n\
+bind a scroll_end => ok\n\
+bind a page_up => ok\n\
+bind a page_down => ok\n\
+bind a toggle_class a => ok\n\
+bind a toggle_class _-9 => ok\n\
+bind priority f1 toggle_class a => ok\n\
+bind a => 2 Expected\n\
+bind a  => 2 Expected\n\
+bind a => 2 Expected\n\
+bind a focus => 2 Expected\n\
+bind a focus_next  => 2 Expected\n\
+bind a focus_next x => 2 Expected\n\
+bind a  focus_next => 2 Expected\n\
+bind a toggle_class => 2 Expected\n\
+bind a toggle_class  => 2 Expected\n\
+bind a toggle_class 1 => 2 Expected\n\
+bind a toggle_class a b => 2 Expected\n\
+bind a toggle_class .a => 2 Expected\n\
+bind a scroll_left => 2 Expected\n\
+bind a Focus_next => 2 Expected",
+        |given| second_line(alloc, given),
     )
 }
 
 #[test]
 fn places_of_rows(rt: HostRuntime) -> Result<(), Fail> {
-    each_comes_out(
-        rt.alloc(),
-        "ok:Screen/  Container/    Label/\nok:Screen/  Vertical/    Label/\nok:Screen/  Horizontal/    Label/\nok:Screen/  Grid/    Label/\nok:Screen/  VerticalScroll/    Label/\n3 Leaf:Screen/  Static/    Label/\n3 Leaf:Screen/  Label/    Label/\n3 Leaf:Screen/  Button/    Label/\n3 Leaf:Screen/  Checkbox/    Label/\n3 Leaf:Screen/  Input/    Label/\n3 Leaf:Screen/  OptionList/    Label/\n3 Leaf:Screen/  ProgressBar/    Label/\n3 Leaf:Screen/  Header/    Label/\n3 Leaf:Screen/  Footer/    Label/\n3 Leaf:Screen/  Meter/    Label/\n2 DuplicateId:Screen #a/  Static #a/\n3 DuplicateId:Screen/  Static #a/  Static #a/\nok:Screen/  Static #a/  Static #b/\nok:Screen #a .a/  Static .a/  Static #A/\n4 DuplicateId:Screen/  Grid #a/    Grid/      Static #a/\n4 Leaf:Screen/  Grid/    Static/      Label/",
+    let alloc = rt.alloc();
+    each_line(
+        "\
+Screen/  Container/    Label/ => ok\n\
+Screen/  Vertical/    Label/ => ok\n\
+Screen/  Horizontal/    Label/ => ok\n\
+Screen/  Grid/    Label/ => ok\n\
+Screen/  VerticalScroll/    Label/ => ok\n\
+Screen/  Static/    Label/ => 3 Leaf\n\
+Screen/  Label/    Label/ => 3 Leaf\n\
+Screen/  Button/    Label/ => 3 Leaf\n\
+Screen/  Checkbox/    Label/ => 3 Leaf\n\
+Screen/  Input/    Label/ => 3 Leaf\n\
+Screen/  OptionList/    Label/ => 3 Leaf\n\
+Screen/  ProgressBar/    Label/ => 3 Leaf\n\
+Screen/  Header/    Label/ => 3 Leaf\n\
+Screen/  Footer/    Label/ => 3 Leaf\n\
+Screen/  Meter/    Label/ => 3 Leaf\n\
+Screen #a/  Static #a/ => 2 DuplicateId\n\
+Screen/  Static #a/  Static #a/ => 3 DuplicateId\n\
+Screen/  Static #a/  Static #b/ => ok\n\
+Screen #a .a/  Static .a/  Static #A/ => ok\n\
+Screen/  Grid #a/    Grid/      Static #a/ => 4 DuplicateId\n\
+Screen/  Grid/    Static/      Label/ => 4 Leaf",
+        |given| whole_text(alloc, given),
     )
 }
 
 #[test]
 fn two_faults_of_a_line(rt: HostRuntime) -> Result<(), Fail> {
-    each_comes_out(
-        rt.alloc(),
-        "2 BadByte:Screen/~Static/\n2 BadByte:Screen/  static ~/\n2 BadByte:Screen #a/  Static #a \"~\"/\n3 BadByte:Screen/  Static/    Label \"~\"/\n2 BadByte:Screen/bind ~ focus_next/\n2 BadIndent:Screen/ static/\n2 BadIndent:Screen/ bind/\n3 BadIndent:Screen/  Static/     Label/\n2 BadIndent:Screen #a/ Static #a/\n3 Expected:Screen/  Static/    label/\n3 Expected:Screen/  Static/    Screen/\n2 Expected:Screen #a/  Static #a .b .b/\n2 Expected:Screen #a/  Screen #a/\n3 Leaf:Screen #a/  Static/    Label #a/\n2 BadIndent:Screen/Static/~/\n3 BadByte:Screen/  Static/~/\n2 Expected:Screen/  static/ Static/\n2 DuplicateId:Screen #a/  Static #a/~\n2 DuplicateId:Screen #a/  Static #a/  bind/\n3 Expected:Screen/  Static #a/    bind/  Static #a/",
+    let alloc = rt.alloc();
+    each_line(
+        "\
+Screen/~Static/ => 2 BadByte\n\
+Screen/  static ~/ => 2 BadByte\n\
+Screen #a/  Static #a \"~\"/ => 2 BadByte\n\
+Screen/  Static/    Label \"~\"/ => 3 BadByte\n\
+Screen/bind ~ focus_next/ => 2 BadByte\n\
+Screen/ static/ => 2 BadIndent\n\
+Screen/ bind/ => 2 BadIndent\n\
+Screen/  Static/     Label/ => 3 BadIndent\n\
+Screen #a/ Static #a/ => 2 BadIndent\n\
+Screen/  Static/    label/ => 3 Expected\n\
+Screen/  Static/    Screen/ => 3 Expected\n\
+Screen #a/  Static #a .b .b/ => 2 Expected\n\
+Screen #a/  Screen #a/ => 2 Expected\n\
+Screen #a/  Static/    Label #a/ => 3 Leaf\n\
+Screen/Static/~/ => 2 BadIndent\n\
+Screen/  Static/~/ => 3 BadByte\n\
+Screen/  static/ Static/ => 2 Expected\n\
+Screen #a/  Static #a/~ => 2 DuplicateId\n\
+Screen #a/  Static #a/  bind/ => 2 DuplicateId\n\
+Screen/  Static #a/    bind/  Static #a/ => 3 Expected",
+        |given| whole_text(alloc, given),
     )
 }
 
@@ -250,9 +541,7 @@ fn what_is_kept_of_a_row(rt: HostRuntime) -> Result<(), Fail> {
     let alloc = rt.alloc();
     let text =
         "Screen\n  Input \"ab\"\n  Checkbox on\n  ProgressBar total 7\n  ProgressBar\n  OptionList\n";
-    let Ok(tree) = read(alloc, text.as_bytes())? else {
-        return Err(Fail::from("refused"));
-    };
+    let tree = read(alloc, text.as_bytes())??;
     let states = [
         Private::Plain,
         Private::Cursor(2),
@@ -266,12 +555,8 @@ fn what_is_kept_of_a_row(rt: HostRuntime) -> Result<(), Fail> {
     ];
     let mut number = 1u32;
     for state in states {
-        let Some(row) = tree.row(NodeId(number)) else {
-            return Err(Fail::from("no such row"));
-        };
-        if row.private != state {
-            return Err(Fail::from("another state"));
-        }
+        let row = tree.row(NodeId(number)).ok_or("no such row")?;
+        expect(row.private == state, "the state")?;
         number = number.saturating_add(1);
     }
     Ok(())
@@ -284,75 +569,34 @@ const PARCELS: &str =
 fn an_application(rt: HostRuntime) -> Result<(), Fail> {
     let alloc = rt.alloc();
     comes_out(alloc, "ok", PARCELS.as_bytes())?;
-    let Ok(tree) = read(alloc, PARCELS.as_bytes())? else {
-        return Err(Fail::from("refused"));
-    };
-    let Some(load) = tree.row(NodeId(14)) else {
-        return Err(Fail::from("no row 14"));
-    };
-    let named = load.id == Name::of("load") && load.kind == Kind::ProgressBar && load.depth == 2;
-    if named && tree.root() == NodeId(1) && tree.made() == 14 {
-        return Ok(());
-    }
-    Err(Fail::from("other numbers"))
-}
-
-fn refused<T: Drop>(answer: Result<T, TreeFault>, wanted: TreeFault) -> Result<(), Fail> {
-    match answer {
-        Err(fault) if fault == wanted => Ok(()),
-        _ => Err(Fail::from("another answer")),
-    }
-}
-
-/// A Static with an id and nothing else.
-fn static_row(alloc: Global, id: &str) -> Result<NewRow, Fail> {
-    Ok(NewRow {
-        kind: Kind::Static,
-        id: Name::of(id),
-        classes: Names::of(Vec::new(alloc)),
-        disabled: false,
-        text: Text::of(alloc, "")?,
-        inline: Text::of(alloc, "")?,
-        binds: Binds::of(Vec::new(alloc)),
-        private: Private::Plain,
-    })
+    let tree = read(alloc, PARCELS.as_bytes())??;
+    let load = tree.row(NodeId(14)).ok_or("no row 14")?;
+    expect(load.id == Name::of("load"), "the id of the last row")?;
+    expect(
+        load.kind == Kind::ProgressBar && load.depth == 2,
+        "its kind and depth",
+    )?;
+    expect(
+        tree.root() == NodeId(1) && tree.made() == 14,
+        "the first and the last number",
+    )
 }
 
 #[test]
 fn edits_of_a_tree_that_was_read(rt: HostRuntime) -> Result<(), Fail> {
     let alloc = rt.alloc();
-    let Ok(mut tree) = read(alloc, b"Screen\n  Static #a\n  Static #b\n")? else {
-        return Err(Fail::from("refused"));
-    };
-    refused(
-        tree.mount(NodeId(1), static_row(alloc, "a")?),
-        TreeFault::DuplicateId,
-    )?;
-    refused(
-        tree.mount(NodeId(2), static_row(alloc, "a")?),
-        TreeFault::Leaf,
+    let mut tree = read(alloc, b"Screen\n  Static #a\n  Static #b\n")??;
+    let mut again = NewRow::of(alloc, Kind::Static);
+    again.id = Name::of("a");
+    expect(
+        tree.mount(NodeId(1), again) == Err(TreeFault::DuplicateId),
+        "an id that was read",
     )?;
     tree.move_before(NodeId(3), NodeId(2))?;
-    if !tree.spelled() {
-        return Err(Fail::from("the tree has no spelling"));
-    }
+    expect(tree.spelled(), "a spelling")?;
     let written = write_tree(alloc, &tree)?;
-    if written.as_slice() != b"Screen\n  Static #b\n  Static #a\n".as_slice() {
-        return Err(Fail::from("another text"));
-    }
-    refused(
-        tree.move_before(NodeId(3), NodeId(1)),
-        TreeFault::NotSiblings,
-    )?;
-    refused(tree.remove(NodeId(1)), TreeFault::Root)?;
-    refused(
-        tree.set_inline(NodeId(9), Text::of(alloc, "")?),
-        TreeFault::NoNode,
-    )?;
-    refused(tree.children(NodeId(9)), TreeFault::NoNode)?;
-    refused(tree.reserve_classes(NodeId(9), 1), TreeFault::NoNode)?;
-    if tree.rows()?.len() == 3 {
-        return Ok(());
-    }
-    Err(Fail::from("another number of rows"))
+    expect(
+        written.as_slice() == b"Screen\n  Static #b\n  Static #a\n".as_slice(),
+        "the text of the edited tree",
+    )
 }

@@ -1,13 +1,14 @@
 use Rattle.std.proofs.Common.{sym, ◌∙◌, ap, arith}
+use Rattle.std.proofs.lemmas.Bool.{false_from_ne_true}
+use Rattle.tx_text.specs.Name.{is_name}
 use Rattle.tx_tree.specs.Spelled.{no_repeats}
-use Rattle.tx_tree_file.specs.Parts.{name_of}
 use Rattle.tx_tree_file.proofs.ClassLoop.{no_class, next_short, next_room, next_class, all_classes}
 use Rattle.tx_tree_file.proofs.row_parts.classes_of.Goals as goal
 
-pub returns-in_default-name_of : goal.returns-in_default-name_of
-returns-in_default-name_of c =
+pub returns-in_default-of_bytes : goal.returns-in_default-of_bytes
+returns-in_default-of_bytes c =
     no_class c.loop-behind.classes.items c.args.bytes.now c.loop-behind.rest.now c.in-Some.behind.now c.loop-behind.invariant.room c.loop-behind.invariant.all (sym c.in-Some.ensures)
-    (sym (c.in_default-name_of.ensures ∙ ap name_of c.split_word.ensures.word))
+    (false_from_ne_true _ (λ named. c.in_default-of_bytes.ensures (ap is_name c.split_word.ensures.word ∙ named)))
 
 pub loop-behind-smaller : goal.loop-behind-smaller
 loop-behind-smaller c =
@@ -16,11 +17,12 @@ loop-behind-smaller c =
 
 pub loop-behind-preserved : goal.loop-behind-preserved
 loop-behind-preserved c =
-    let name = sym (c.in-Some-name_of.ensures ∙ ap name_of c.split_word.ensures.word) in
+    let named = ap is_name (sym c.split_word.ensures.word) ∙ c.in-Some-of_bytes.ensures.0 in
+    let name = c.in-Some-of_bytes.ensures.1 ∙ c.split_word.ensures.word in
     let more = c.in_ok-push.ensures.items in
     record {
-      room = rw more (next_room _ c.loop-behind.classes.items c.in-Some-name_of.name c.loop-behind.rest.now c.in-Some.behind.now c.split_word.result.1.now c.loop-behind.invariant.room (sym c.in-Some.ensures) c.split_word.ensures.rest);
-      all = rw more (next_class _ c.loop-behind.classes.items c.args.bytes.now c.loop-behind.rest.now c.in-Some.behind.now c.split_word.result.1.now c.in-Some-name_of.name c.loop-behind.invariant.room c.loop-behind.invariant.all (sym c.in-Some.ensures) name c.split_word.ensures.rest);
+      room = rw more (next_room _ c.loop-behind.classes.items c.in-Some-of_bytes.name c.loop-behind.rest.now c.in-Some.behind.now c.split_word.result.1.now c.loop-behind.invariant.room (sym c.in-Some.ensures) c.split_word.ensures.rest);
+      all = rw more (next_class _ c.loop-behind.classes.items c.args.bytes.now c.loop-behind.rest.now c.in-Some.behind.now c.split_word.result.1.now c.in-Some-of_bytes.name c.loop-behind.invariant.room c.loop-behind.invariant.all (sym c.in-Some.ensures) named name c.split_word.ensures.rest);
     }
 
 pub returns-then-not-branch : goal.returns-then-not-branch

@@ -1,8 +1,8 @@
 use Rattle.std.proofs.Common.{◌≡◌, ◌++◌, drop}
 use Rattle.std.specs.List.{list_all}
-use Rattle.tx_tree.specs.Name.{is_name}
+use Rattle.tx_text.specs.Name.{is_name}
 use Rattle.tx_tree_file.specs.Spelling.{class_parts}
-use Rattle.tx_tree_file.proofs.parts.push_classes.Given as goal
+use Rattle.tx_tree_file.proofs.written_parts.push_classes.Given as goal
 
 -- what was written, with the classes that are left, is all; and all are names where those left are
 abbrev pub invariant-loop-class : goal.invariant-loop-class

@@ -1,6 +1,6 @@
 use Rattle.std.proofs.Common.{◌≡◌, ◌++◌, drop, flat_map}
 use Rattle.tx_tree_file.specs.Spelling.{escaped}
-use Rattle.tx_tree_file.proofs.parts.push_all_escaped.Given as goal
+use Rattle.tx_tree_file.proofs.written_parts.push_all_escaped.Given as goal
 
 -- what was written, with the bytes that are left, is all
 abbrev pub invariant-loop-byte : goal.invariant-loop-byte

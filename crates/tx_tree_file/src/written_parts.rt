@@ -2,13 +2,14 @@
 ghost use Rattle.std.specs.List.{list_all};
 ghost use Rattle.std.specs.Str.{is_utf8, all_scalars};
 ghost use Rattle.tx_tree.specs.Kind.{kind_name};
-ghost use Rattle.tx_tree.specs.Name.{is_name};
+ghost use Rattle.tx_text.specs.Name.{is_name};
 ghost use Rattle.tx_tree_file.specs.TreeFile.{id_is_typed, kind_is_typed, key_is_typed, action_is_typed};
-ghost use Rattle.std.specs.Prelude.{◌≡◌, ◌+◌, ◌++◌, ◌∷◌, [], true, OnOk, codes, encode_utf8, flat_map, decimal};
+ghost use Rattle.std.specs.Prelude.{◌≡◌, ◌+◌, ◌++◌, ◌∷◌, [], true, OnOk, codes, encode_utf8, flat_map};
 ghost use Rattle.tx_tree.specs.declared.bind.Action.TheVariants.{ToggleClass};
 ghost use Rattle.tx_tree_file.specs.Spelling.{indent, id_part, class_parts, disabled_part, private_part, escaped, text_part, inline_part, key_name, jump_name, action_name, priority_part};
 
 use std::alloc::AllocError;
+use tx_read::push_number;
 use tx_tree::{Action, Jump, Key, Kind, Name, Private};
 
 /// Two blanks for each depth.
@@ -74,13 +75,6 @@ pub fn push_disabled(out: &mut Vec<u8>, disabled: bool) -> Result<(), AllocError
     }
 }
 
-fn push_number(out: &mut Vec<u8>, number: u32) -> Result<(), AllocError>
-    ensures { OnOk result (out.new.items ≡ out.old.items ++ decimal number) }
-{
-    let mut buffer = itoa::Buffer::new();
-    out.extend_from_slice(buffer.format(number).as_bytes())
-}
-
 /// What a tree file says of a private state.
 pub fn push_private(out: &mut Vec<u8>, private: Private) -> Result<(), AllocError>
     ensures { OnOk result (out.new.items ≡ out.old.items ++ private_part private) }
@@ -89,7 +83,7 @@ pub fn push_private(out: &mut Vec<u8>, private: Private) -> Result<(), AllocErro
         Private::On(true) => out.extend_from_slice(b" on"),
         Private::Bar { total, .. } if total != 100 => {
             out.extend_from_slice(b" total ")?;
-            push_number(out, total)
+            push_number(out, total as u64)
         }
         _ => Ok(()),
     }
@@ -178,7 +172,7 @@ pub fn push_key(out: &mut Vec<u8>, key: Key) -> Result<(), AllocError>
         Key::PageDown => out.extend_from_slice(b"pagedown"),
         Key::Function(number) => {
             out.extend_from_slice(b"f")?;
-            push_number(out, number as u32)
+            push_number(out, number as u64)
         }
         Key::Ctrl(letter) => {
             out.extend_from_slice(b"ctrl+")?;

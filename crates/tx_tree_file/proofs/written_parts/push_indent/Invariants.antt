@@ -1,5 +1,5 @@
 use Rattle.std.proofs.Common.{◌≡◌, ◌*◌, ◌++◌, replicate}
-use Rattle.tx_tree_file.proofs.parts.push_indent.Given as goal
+use Rattle.tx_tree_file.proofs.written_parts.push_indent.Given as goal
 
 -- two blanks for each turn so far
 abbrev pub invariant-loop : goal.invariant-loop
