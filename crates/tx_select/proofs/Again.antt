@@ -1,16 +1,17 @@
 -- The parts of the grammar are read: a part, parts and a compound.
 use Rattle.std.proofs.Common.{◌≡◌, ◌≢◌, ℕ, Bool, true, false, cond, ◌&&◌, ◌||◌, nat_eq, List, [], ◌∷◌, ◌++◌, length, Option, Some, None, Ok, refl, ap, ◌∙◌, arith, append_assoc}
+use Rattle.std.proofs.lemmas.Bool.{or_right}
 use Rattle.std.proofs.lemmas.Bool.Decides.{nat_tests}
 use Rattle.tx_lex.specs.declared.token.TokenKind.{TokenKind}
 use Rattle.tx_lex.specs.declared.token.TokenKind.TheVariants.{Space, Comment, Name, Hash, Variable, Number, Mark}
-use Rattle.tx_tree.specs.Name.{is_name}
+use Rattle.tx_text.specs.Name.{is_name}
 use Rattle.tx_read.specs.Reading.{◌>>=◌, Items, whole}
-use Rattle.tx_read.proofs.ManyItems.{many-again}
+use Rattle.tx_read.proofs.lemmas.ManyItems.{many-again}
 use Rattle.tx_lex.specs.Lexemes.{Lexeme, is_name_token, is_hash, is_mark, first_is}
 use Rattle.tx_select.specs.Lexemes.{begins_part, begins_compound}
 use Rattle.tx_select.specs.Pseudo.{pseudo_name, pseudo_of}
 use Rattle.tx_select.specs.Grammar.{IsPart, AreParts, IsKind, IsCompound}
-use Rattle.tx_select.specs.Reads.{Read, id_at, class_at, known_pseudo, pseudo_at, part_at, parts_at, kind_at, compound_of, compound_at, expected}
+use Rattle.tx_select.specs.SelectorReading.{Read, id_at, class_at, known_pseudo, pseudo_at, part_at, parts_at, kind_at, compound_of, compound_at, expected}
 use Rattle.tx_select.specs.declared.value.Part.{Part}
 use Rattle.tx_select.specs.declared.value.Part.TheVariants.{Id, Class, Pseudo}
 use Rattle.tx_select.specs.declared.value.Compound.{Compound}
@@ -154,10 +155,6 @@ compound-again a rest compound is none =
     ap (λ r. r >>= then_parts compound.child) (ap kind_at split ∙ kind)
     ∙ ap (λ r. r >>= then_compound compound.child compound.kind) (parts-again is.1 rest compound.parts is.4 none)
 
-or-right : (a b : Bool) → b ≡ true → (a || b) ≡ true
-or-right true b is = refl
-or-right false b is = is
-
 kind-begins : (a rest : List Lexeme) (kind : Option (List ℕ)) (parts : List Part) → IsKind a kind parts → (parts ≢ [] → first_is begins_part rest ≡ true) → first_is begins_compound (a ++ rest) ≡ true
 kind-begins (t ∷ []) rest (Some name) parts is begins = ap begins_compound is.0
 kind-begins (t ∷ []) rest None parts is begins = ap begins_compound is
@@ -165,7 +162,7 @@ kind-begins [] rest None parts is begins = of rest (begins is)
   where
     of : (rest : List Lexeme) → first_is begins_part rest ≡ true → first_is begins_compound rest ≡ true
     of [] part = part
-    of (t ∷ ts) part = or-right (is_name_token t.kind || is_mark 42 t.kind) (begins_part t.kind) part
+    of (t ∷ ts) part = or_right (is_name_token t.kind || is_mark 42 t.kind) (begins_part t.kind) part
 kind-begins [] rest (Some name) parts is begins = absurd is
 kind-begins (t ∷ u ∷ a) rest None parts is begins = absurd is
 kind-begins (t ∷ u ∷ a) rest (Some name) parts is begins = absurd is

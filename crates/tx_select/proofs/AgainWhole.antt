@@ -1,5 +1,7 @@
 -- What is in the grammar is read.
 use Rattle.std.proofs.Common.{◌≡◌, ℕ, zero, suc, ◌≤◌, Bool, true, false, cond, ◌&&◌, ◌||◌, nat_eq, List, [], ◌∷◌, ◌++◌, length, Option, Some, None, Ok, refl, ap, sym, ◌∙◌, arith, append_assoc}
+use Rattle.std.proofs.Math.Bool.{or-false, or_assoc}
+use Rattle.std.proofs.lemmas.Bool.{and_parts, and_right, or_parts}
 use Rattle.std.proofs.lemmas.Bool.Decides.{nat_tests}
 use Rattle.std.proofs.lemmas.List.{append-nil}
 use Rattle.tx_lex.specs.declared.token.TokenKind.{TokenKind}
@@ -8,16 +10,13 @@ use Rattle.tx_read.specs.Reading.{◌>>=◌}
 use Rattle.tx_lex.specs.Lexemes.{Lexeme, is_space, is_name_token, is_mark, is_blank, first_is}
 use Rattle.tx_select.specs.Lexemes.{is_child_mark, begins_part, begins_compound, goes_on}
 use Rattle.tx_select.specs.Grammar.{AreBlank, has_space, IsCombinator, AreCompounds, child_of_first, IsWhole}
-use Rattle.tx_select.specs.Reads.{Read, compound_at, spaces_behind, spaces_at, joint_at, link_at, then_compounds, compounds_at, selector_at, ended, whole_at}
+use Rattle.tx_select.specs.SelectorReading.{compound_at, spaces_behind, spaces_at, joint_at, link_at, then_compounds, compounds_at, selector_at, ended, whole_at}
 use Rattle.tx_select.specs.Laws.{StandsBefore}
 use Rattle.tx_select.specs.declared.value.Compound.{Compound}
 use Rattle.tx_select.proofs.Again.{compound-again, compound-begins}
+use Rattle.tx_select.proofs.FoundWhole.{joined_by, then_link}
 
 -- ---- kinds
-
-either : (a b : Bool) → (a || b) ≡ false → (a ≡ false) × (b ≡ false)
-either true b is = absurd (let clash : true ≡ false = is in cc)
-either false b is = (refl, is)
 
 compound-only : (kind : TokenKind) → begins_compound kind ≡ true → (is_blank kind ≡ false) × (is_child_mark kind ≡ false)
 compound-only Name is = (refl, refl)
@@ -54,37 +53,21 @@ record Ends (rest : List Lexeme) : Type 0 where
 ends : (rest : List Lexeme) → first_is goes_on rest ≡ false → Ends rest
 ends [] is = record { blank = refl; child = refl; compound = refl; part = refl }
 ends (t ∷ ts) is =
-    let outer : ((is_blank t.kind || is_child_mark t.kind) ≡ false) × (begins_compound t.kind ≡ false) = either (is_blank t.kind || is_child_mark t.kind) (begins_compound t.kind) is in
-    let inner : (is_blank t.kind ≡ false) × (is_child_mark t.kind ≡ false) = either (is_blank t.kind) (is_child_mark t.kind) outer.0 in
-    record { blank = inner.0; child = inner.1; compound = outer.1; part = (either (is_name_token t.kind || is_mark 42 t.kind) (begins_part t.kind) outer.1).1 }
+    let outer : ((is_blank t.kind || is_child_mark t.kind) ≡ false) × (begins_compound t.kind ≡ false) = or_parts (is_blank t.kind || is_child_mark t.kind) (begins_compound t.kind) is in
+    let inner : (is_blank t.kind ≡ false) × (is_child_mark t.kind ≡ false) = or_parts (is_blank t.kind) (is_child_mark t.kind) outer.0 in
+    record { blank = inner.0; child = inner.1; compound = outer.1; part = (or_parts (is_name_token t.kind || is_mark 42 t.kind) (begins_part t.kind) outer.1).1 }
 
 -- ---- spaces and comments
 
-or-false : (a : Bool) → a ≡ (a || false)
-or-false true = refl
-or-false false = refl
-
-or-assoc : (a b c : Bool) → ((a || b) || c) ≡ (a || (b || c))
-or-assoc true b c = refl
-or-assoc false b c = refl
-
-and-both : (a b : Bool) → (a && b) ≡ true → (a ≡ true) × (b ≡ true)
-and-both true b is = (refl, is)
-and-both false b is = absurd (let clash : false ≡ true = is in cc)
-
-and-false : (a b : Bool) → b ≡ false → (a && b) ≡ false
-and-false true b is = is
-and-false false b is = refl
-
 spaces-again : (blank rest : List Lexeme) (spaced : Bool) → AreBlank blank → first_is is_blank rest ≡ false → spaces_behind spaced (blank ++ rest) ≡ (spaced || has_space blank, rest)
-spaces-again [] [] spaced all none = ap (λ b. (b, [])) (or-false spaced)
+spaces-again [] [] spaced all none = ap (λ b. (b, [])) (sym (or-false spaced))
 spaces-again [] (t ∷ ts) spaced all none =
-    ap (λ b. cond b (spaces_behind (spaced || is_space t.kind) ts) (spaced, t ∷ ts)) none ∙ ap (λ b. (b, t ∷ ts)) (or-false spaced)
+    ap (λ b. cond b (spaces_behind (spaced || is_space t.kind) ts) (spaced, t ∷ ts)) none ∙ ap (λ b. (b, t ∷ ts)) (sym (or-false spaced))
 spaces-again (t ∷ blank) rest spaced all none =
-    let parts : (is_blank t.kind ≡ true) × AreBlank blank = and-both (is_blank t.kind) _ all in
+    let parts : (is_blank t.kind ≡ true) × AreBlank blank = and_parts (is_blank t.kind) _ all in
     ap (λ b. cond b (spaces_behind (spaced || is_space t.kind) (blank ++ rest)) (spaced, t ∷ (blank ++ rest))) parts.0
     ∙ spaces-again blank rest (spaced || is_space t.kind) parts.1 none
-    ∙ ap (λ b. (b, rest)) (or-assoc spaced (is_space t.kind) (has_space blank))
+    ∙ ap (λ b. (b, rest)) (or_assoc spaced (is_space t.kind) (has_space blank))
 
 spaces_at-again : (blank rest : List Lexeme) → AreBlank blank → first_is is_blank rest ≡ false → spaces_at (blank ++ rest) ≡ (has_space blank, rest)
 unfolding spaces_at
@@ -92,14 +75,11 @@ spaces_at-again blank rest all none = spaces-again blank rest false all none
 
 -- ---- what stands between compounds
 
-abbrev joined_by : Lexeme → List Lexeme → Bool → Bool → Option Bool × List Lexeme
-joined_by t ts mark compound = cond mark (Some true, (spaces_at ts).1) (cond compound (Some false, t ∷ ts) (None, t ∷ ts))
-
 joint-end : (rest : List Lexeme) (spaced : Bool) → Ends rest → joint_at spaced rest ≡ (None, rest)
 joint-end [] spaced end = refl
 joint-end (t ∷ ts) spaced end =
     ap (λ mark. joined_by t ts mark (spaced && begins_compound t.kind)) end.child
-    ∙ ap (λ compound. joined_by t ts false compound) (and-false spaced (begins_compound t.kind) end.compound)
+    ∙ ap (λ compound. joined_by t ts false compound) (and_right spaced (begins_compound t.kind) end.compound)
 
 link-end : (blank rest : List Lexeme) → AreBlank blank → Ends rest → link_at (blank ++ rest) ≡ (None, rest)
 unfolding link_at
@@ -130,11 +110,11 @@ link-joined g x true is begins =
 -- no part begins with it
 blank-parts : (blank rest : List Lexeme) → AreBlank blank → first_is begins_part rest ≡ false → first_is begins_part (blank ++ rest) ≡ false
 blank-parts [] rest all none = none
-blank-parts (t ∷ blank) rest all none = blank-only t.kind (and-both (is_blank t.kind) _ all).0
+blank-parts (t ∷ blank) rest all none = blank-only t.kind (and_parts (is_blank t.kind) _ all).0
 
 joined-parts : (g x : List Lexeme) (child : Bool) → IsCombinator g child → first_is begins_part (g ++ x) ≡ false
 joined-parts [] x false is = absurd (let clash : false ≡ true = is.1 in cc)
-joined-parts (t ∷ g) x false is = blank-only t.kind (and-both (is_blank t.kind) _ is.0).0
+joined-parts (t ∷ g) x false is = blank-only t.kind (and_parts (is_blank t.kind) _ is.0).0
 joined-parts g x true is =
     ap (first_is begins_part) (ap (λ xs. xs ++ x) is.3 ∙ append_assoc is.0 (is.2 ∷ is.1) x)
     ∙ blank-parts is.0 (is.2 ∷ (is.1 ++ x)) is.4 (ap begins_part is.5)
@@ -147,9 +127,6 @@ compounds-begin s rest (compound ∷ []) is = compound-begins s rest compound is
 compounds-begin s rest (compound ∷ next ∷ compounds) is =
     ap (first_is begins_compound) (ap (λ xs. xs ++ rest) is.3 ∙ append_assoc is.0 (is.1 ++ is.2) rest)
     ∙ compound-begins is.0 ((is.1 ++ is.2) ++ rest) compound is.4
-
-abbrev then_link : ℕ → Compound × List Lexeme → Read (List Compound)
-then_link most compound = then_compounds (compounds_at most) compound.0 (link_at compound.1).0 (link_at compound.1).1
 
 compounds-step : (most : ℕ) (child : Bool) (s : List Lexeme) (compound : Compound) (behind : List Lexeme) (link : Option Bool × List Lexeme) → compound_at child s ≡ Ok (compound, behind) → link_at behind ≡ link
     → compounds_at (suc most) child s ≡ then_compounds (compounds_at most) compound link.0 link.1

@@ -1,21 +1,22 @@
 -- The parts that are read are parts of the grammar.
-use Rattle.std.proofs.Common.{◌≡◌, ℕ, ◌+◌, ◌<◌, Bool, true, false, cond, ◌&&◌, List, [], ◌∷◌, ◌++◌, length, drop, Option, Some, None, Ok, bytes_eq, refl, ap, ◌∙◌, subst, arith, length-append}
+use Rattle.std.proofs.Common.{◌≡◌, ℕ, ◌+◌, ◌<◌, Bool, true, false, cond, ◌&&◌, List, [], ◌∷◌, ◌++◌, length, drop, Option, Some, None, Ok, bytes_eq, refl, ap, sym, ◌∙◌, subst, arith, length-append}
+use Rattle.std.specs.List.{find}
 use Rattle.std.proofs.lemmas.Slice.Eq.{bytes_eq-Decides}
 use Rattle.tx_lex.specs.declared.token.TokenKind.TheVariants.{Hash, Mark}
-use Rattle.tx_tree.specs.Name.{is_name}
+use Rattle.tx_text.specs.Name.{is_name}
 use Rattle.tx_read.specs.Reading.{Shrinks}
 use Rattle.tx_lex.specs.Lexemes.{Lexeme, is_name_token, is_hash, is_mark, first_is}
 use Rattle.tx_select.specs.Lexemes.{begins_part}
 use Rattle.tx_select.specs.Pseudo.{pseudo_name, pseudo_of}
 use Rattle.tx_select.specs.Grammar.{IsPart}
-use Rattle.tx_select.specs.Reads.{id_at, class_at, known_pseudo, pseudo_at, part_at, expected}
+use Rattle.tx_select.specs.SelectorReading.{id_at, class_at, known_pseudo, pseudo_at, part_at, expected}
 use Rattle.tx_select.specs.declared.value.Part.{Part}
 use Rattle.tx_select.specs.declared.value.Part.TheVariants.{Id, Class, Pseudo}
 use Rattle.tx_select.specs.declared.value.PseudoName.{PseudoName}
-use Rattle.tx_select.specs.declared.value.PseudoName.TheVariants.{Hover, Focus, FocusWithin, Blur, Enabled, Disabled, Dark, Light, FirstChild, LastChild}
+use Rattle.tx_select.specs.declared.lexemes.TheConstants.{PSEUDO_NAMES}
 use Rattle.tx_select.specs.declared.fault.SelectKind.TheVariants.{Expected, UnknownPseudo}
-use Rattle.tx_lex.proofs.TokenKinds.{mark-kind, name-kind, hash-kind}
-use Rattle.tx_select.proofs.Cases.{Gave, given, refused}
+use Rattle.tx_lex.proofs.lemmas.TokenKinds.{mark-kind, name-kind, hash-kind}
+use Rattle.tx_read.proofs.lemmas.Cases.{Gave, given, refused}
 
 -- tokens of which the first ones are so
 abbrev pub Takes : (List Lexeme → Type 0) → List Lexeme → List Lexeme → Type 0
@@ -23,29 +24,20 @@ Takes Is ts rest = (a : List Lexeme) × (ts ≡ a ++ rest) × Is a
 
 -- ---- names of pseudo-classes
 
-same_bytes : (xs ys : List ℕ) → bytes_eq xs ys ≡ true → xs ≡ ys
-same_bytes xs ys is = (bytes_eq-Decides xs ys).0 is
-
-chain : (name : List ℕ) (pseudo one : PseudoName) (test : Bool) (rest : Option PseudoName) → bytes_eq name (pseudo_name one) ≡ test
-    → cond test (Some one) rest ≡ Some pseudo → (rest ≡ Some pseudo → name ≡ pseudo_name pseudo) → name ≡ pseudo_name pseudo
-chain name pseudo one true rest is found next =
-    let same : one ≡ pseudo = cc in
-    same_bytes name (pseudo_name one) is ∙ ap pseudo_name same
-chain name pseudo one false rest is found next = next found
+find-passes : (p : PseudoName → Bool) (pseudos : List PseudoName) (pseudo : PseudoName) → find p pseudos ≡ Some pseudo → p pseudo ≡ true
+find-passes p [] pseudo found = absurd (let clash : None ≡ Some pseudo = found in cc)
+find-passes p (one ∷ pseudos) pseudo found = of (p one) refl found (find-passes p pseudos pseudo)
+  where
+    of : (test : Bool) → p one ≡ test → cond test (Some one) (find p pseudos) ≡ Some pseudo → (find p pseudos ≡ Some pseudo → p pseudo ≡ true) → p pseudo ≡ true
+    of true is found next =
+        let same : one ≡ pseudo = cc in
+        ap p (sym same) ∙ is
+    of false is found next = next found
 
 pub pseudo-spelled : (name : List ℕ) (pseudo : PseudoName) → pseudo_of name ≡ Some pseudo → name ≡ pseudo_name pseudo
 unfolding pseudo_of
 pseudo-spelled name pseudo found =
-    chain name pseudo Hover _ _ refl found (λ found.
-    chain name pseudo Focus _ _ refl found (λ found.
-    chain name pseudo FocusWithin _ _ refl found (λ found.
-    chain name pseudo Blur _ _ refl found (λ found.
-    chain name pseudo Enabled _ _ refl found (λ found.
-    chain name pseudo Disabled _ _ refl found (λ found.
-    chain name pseudo Dark _ _ refl found (λ found.
-    chain name pseudo Light _ _ refl found (λ found.
-    chain name pseudo FirstChild _ _ refl found (λ found.
-    chain name pseudo LastChild _ _ refl found (λ found. absurd (let clash : None ≡ Some pseudo = found in cc)))))))))))
+    sym ((bytes_eq-Decides (pseudo_name pseudo) name).0 (find-passes (λ p. bytes_eq (pseudo_name p) name) PSEUDO_NAMES pseudo found))
 
 -- ---- one part
 

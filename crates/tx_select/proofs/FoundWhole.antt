@@ -1,19 +1,21 @@
 -- What is read is in the grammar.
 use Rattle.std.proofs.Common.{◌≡◌, ◌≢◌, ℕ, zero, suc, ◌≤◌, Bool, true, false, cond, ◌&&◌, ◌||◌, List, [], ◌∷◌, ◌++◌, length, Option, Some, None, Result, Ok, Err, refl, ap, sym, ◌∙◌, subst, arith, append_assoc}
+use Rattle.std.proofs.Math.Bool.{or-false, or_assoc}
+use Rattle.std.proofs.lemmas.Bool.{and_from}
 use Rattle.std.proofs.lemmas.List.{append-nil}
-use Rattle.tx_tree.specs.Name.{is_name}
+use Rattle.tx_text.specs.Name.{is_name}
 use Rattle.tx_read.specs.Reading.{◌>>=◌, with_items, many, Items, StopsAt, IsFound}
-use Rattle.tx_read.proofs.ManyItems.{many-found}
+use Rattle.tx_read.proofs.lemmas.ManyItems.{many-found}
 use Rattle.tx_lex.specs.Lexemes.{Lexeme, is_space, is_blank, is_name_token, is_mark, first_is}
 use Rattle.tx_select.specs.Lexemes.{is_child_mark, begins_part, begins_compound}
 use Rattle.tx_select.specs.Grammar.{AreBlank, has_space, IsPart, AreParts, IsKind, IsCompound, IsCombinator, AreCompounds, child_of_first, IsSelector, IsWhole}
-use Rattle.tx_select.specs.Reads.{Read, expected, part_at, parts_at, kind_at, compound_of, compound_at, spaces_behind, spaces_at, joint_at, link_at, then_compounds, compounds_at, selector_at, ended, whole_at}
+use Rattle.tx_select.specs.SelectorReading.{Read, expected, part_at, parts_at, kind_at, compound_of, compound_at, spaces_behind, spaces_at, joint_at, link_at, then_compounds, compounds_at, selector_at, ended, whole_at}
 use Rattle.tx_select.specs.declared.value.Part.{Part}
 use Rattle.tx_select.specs.declared.value.Compound.{Compound}
 use Rattle.tx_select.specs.declared.fault.SelectKind.{SelectKind}
 use Rattle.tx_select.specs.declared.fault.SelectKind.TheVariants.{Expected}
-use Rattle.tx_lex.proofs.TokenKinds.{mark-kind, name-kind}
-use Rattle.tx_select.proofs.Cases.{Gave, given, refused, both}
+use Rattle.tx_lex.proofs.lemmas.TokenKinds.{mark-kind, name-kind}
+use Rattle.tx_read.proofs.lemmas.Cases.{Gave, given, refused, both}
 use Rattle.tx_select.proofs.Found.{Takes, part-found, parts-shrink}
 
 -- ---- parts
@@ -118,20 +120,8 @@ pub record SpacesFound (spaced : Bool) (s : List Lexeme) (found : Bool × List L
   pub all : AreBlank blank
   pub space : found.0 ≡ (spaced || has_space blank)
 
-or-false : (a : Bool) → a ≡ (a || false)
-or-false true = refl
-or-false false = refl
-
-and-true : (a b : Bool) → a ≡ true → b ≡ true → (a && b) ≡ true
-and-true true b is also = also
-and-true false b is also = is
-
-or-assoc : (a b c : Bool) → ((a || b) || c) ≡ (a || (b || c))
-or-assoc true b c = refl
-or-assoc false b c = refl
-
 pub spaces-found : (spaced : Bool) (s : List Lexeme) → SpacesFound spaced s (spaces_behind spaced s)
-spaces-found spaced [] = record { blank = []; parts = refl; all = refl; space = or-false spaced }
+spaces-found spaced [] = record { blank = []; parts = refl; all = refl; space = sym (or-false spaced) }
 spaces-found spaced (t ∷ ts) = of (is_blank t.kind) refl (spaces-found (spaced || is_space t.kind) ts)
   where
     of : (blank : Bool) → is_blank t.kind ≡ blank → SpacesFound (spaced || is_space t.kind) ts (spaces_behind (spaced || is_space t.kind) ts)
@@ -139,17 +129,17 @@ spaces-found spaced (t ∷ ts) = of (is_blank t.kind) refl (spaces-found (spaced
     of true is rest = record {
       blank = t ∷ rest.blank;
       parts = ap (λ xs. t ∷ xs) rest.parts;
-      all = and-true (is_blank t.kind) _ is rest.all;
-      space = rest.space ∙ or-assoc spaced (is_space t.kind) (has_space rest.blank);
+      all = and_from (is_blank t.kind) _ is rest.all;
+      space = rest.space ∙ or_assoc spaced (is_space t.kind) (has_space rest.blank);
     }
-    of false is rest = record { blank = []; parts = refl; all = refl; space = or-false spaced }
+    of false is rest = record { blank = []; parts = refl; all = refl; space = sym (or-false spaced) }
 
 -- what comes behind a compound: another one and what joins it, or spaces and comments alone
 abbrev LinkFound : List Lexeme → Option Bool → List Lexeme → Type 0
 LinkFound s None rest = Takes AreBlank s rest
 LinkFound s (Some child) rest = Takes (λ g. IsCombinator g child) s rest
 
-abbrev joined_by : Lexeme → List Lexeme → Bool → Bool → Option Bool × List Lexeme
+abbrev pub joined_by : Lexeme → List Lexeme → Bool → Bool → Option Bool × List Lexeme
 joined_by t ts mark compound = cond mark (Some true, (spaces_at ts).1) (cond compound (Some false, t ∷ ts) (None, t ∷ ts))
 
 spaces_at-found : (s : List Lexeme) → SpacesFound false s (spaces_at s)
@@ -219,7 +209,7 @@ found-last most child s next rest compound first blank = record {
   few = omega arith;
 }
 
-abbrev then_link : ℕ → Compound × List Lexeme → Read (List Compound)
+abbrev pub then_link : ℕ → Compound × List Lexeme → Read (List Compound)
 then_link most compound = then_compounds (compounds_at most) compound.0 (link_at compound.1).0 (link_at compound.1).1
 
 abbrev behind_one : Compound → List Compound × List Lexeme → Read (List Compound)

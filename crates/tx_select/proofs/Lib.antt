@@ -1,10 +1,9 @@
 pub mod Again
 pub mod AgainWhole
-pub mod Cases
-pub mod Exact
 pub mod Found
 pub mod FoundWhole
 pub mod Local
 pub mod Small
 pub mod Steps
 pub mod WholeTexts
+pub mod lemmas

@@ -1,23 +1,22 @@
 -- What is read depends on nothing behind the token at which it stops or meets a fault.
-use Rattle.std.proofs.Common.{◌≡◌, ℕ, zero, suc, ◌+◌, Bool, true, false, cond, ◌&&◌, ◌||◌, List, [], ◌∷◌, ◌++◌, length, drop, Option, Some, None, Result, Ok, Err, refl, ap, sym, ◌∙◌, arith, length-append}
-use Rattle.std.proofs.lemmas.List.{append_cancel_right}
-use Rattle.tx_tree.specs.Name.{is_name}
-use Rattle.tx_read.specs.Reading.{in_turn, IsLocal, Leaves, ByFirst}
-use Rattle.tx_read.proofs.LocalReaders.{Plain, granted, no_longer, turn, same, Step, Take, Leave, Refuse, stepped, by_first, first-plain, give-plain}
-use Rattle.tx_read.proofs.ManyLocal.{many-local, many-leaves}
+use Rattle.std.proofs.Common.{◌≡◌, ℕ, zero, suc, ◌+◌, Bool, true, false, cond, ◌&&◌, ◌||◌, List, [], ◌∷◌, ◌++◌, length, drop, Option, Some, None, Ok, Err, refl, ap, sym, ◌∙◌, arith, length-append}
+use Rattle.tx_text.specs.Name.{is_name}
+use Rattle.tx_read.specs.Reading.{in_turn, ByFirst}
+use Rattle.tx_read.proofs.lemmas.LocalReaders.{Plain, no_longer, turn, same, Step, Take, Leave, Refuse, stepped, by_first, first-plain, give-plain}
+use Rattle.tx_read.proofs.lemmas.ManyLocal.{many-local, many-leaves}
 use Rattle.tx_lex.specs.Lexemes.{Lexeme, is_space, is_blank, is_name_token, is_hash, is_mark, first_is}
 use Rattle.tx_select.specs.Lexemes.{is_child_mark, begins_part, begins_compound}
 use Rattle.tx_select.specs.Pseudo.{pseudo_of}
 use Rattle.tx_select.specs.Grammar.{IsWhole}
-use Rattle.tx_select.specs.Reads.{Read, Reads, expected, give, class_at, known_pseudo, pseudo_at, part_at, parts_at, kind_at, compound_of, compound_at, spaces_behind, spaces_at, joint_at, link_at, then_compounds, compounds_at, selector_at, ended, whole_at}
-use Rattle.tx_select.specs.Laws.{SelectorsAreLocal, FaultsAreFirst}
+use Rattle.tx_select.specs.SelectorReading.{Reads, expected, give, class_at, known_pseudo, pseudo_at, part_at, parts_at, kind_at, compound_of, compound_at, spaces_behind, spaces_at, joint_at, link_at, then_compounds, compounds_at, selector_at, ended, whole_at}
+use Rattle.tx_select.specs.Laws.{FaultsAreFirst}
 use Rattle.tx_select.specs.declared.value.Part.{Part}
 use Rattle.tx_select.specs.declared.value.Part.TheVariants.{Id, Class, Pseudo}
 use Rattle.tx_select.specs.declared.value.PseudoName.{PseudoName}
 use Rattle.tx_select.specs.declared.value.Compound.{Compound}
 use Rattle.tx_select.specs.declared.fault.SelectKind.{SelectKind}
 use Rattle.tx_select.specs.declared.fault.SelectKind.TheVariants.{Expected, UnknownPseudo}
-use Rattle.tx_select.proofs.Cases.{Gave, given, refused}
+use Rattle.tx_read.proofs.lemmas.Cases.{Gave, granted}
 use Rattle.tx_select.proofs.Found.{parts-shrink}
 use Rattle.tx_select.proofs.FoundWhole.{SpacesFound, spaces-found}
 use Rattle.tx_select.proofs.AgainWhole.{whole-again}
@@ -173,7 +172,7 @@ spaces-value spaced (x ∷ front) more other t b is = of (is_blank x.kind) is (s
     of true is again = again is
     of false is again = absurd (no_longer front (t ∷ more) x (pair-parts spaced b (x ∷ (front ++ (t ∷ more))) (t ∷ more) is).1)
 
-whole_pair : (found : Bool × List Lexeme) (b : Bool) (rest : List Lexeme) → Gave (Ok found) b rest → found ≡ (b, rest)
+whole_pair : (found : Bool × List Lexeme) (b : Bool) (rest : List Lexeme) → Gave {F = SelectKind} (Ok found) b rest → found ≡ (b, rest)
 whole_pair found b rest is = cc
 
 spaces-plain : Plain {T = Lexeme} {F = SelectKind} (λ ts. Ok (spaces_at ts))
@@ -240,12 +239,9 @@ compounds-plain (suc most) child =
     then-plain compound plain None = give-plain (compound ∷ [])
     then-plain compound plain (Some child) = turn (compounds_at most child) (λ compounds. give (compound ∷ compounds)) (plain child) (λ compounds. give-plain (compound ∷ compounds))
 
-selector-plain : Plain selector_at
+pub selector-plain : Plain selector_at
 unfolding selector_at
 selector-plain = compounds-plain 16 false
-
-pub selectors-local : SelectorsAreLocal
-selectors-local = (selector-plain.local, selector-plain.leaves)
 
 ended-plain : (compounds : List Compound) → Plain (ended compounds)
 ended-plain compounds = same (ended compounds) (by_first (Ok compounds) (λ t. Refuse Expected)) of (first-plain (Ok compounds) (λ t. Refuse Expected))

@@ -1,23 +1,17 @@
--- A selector has no more parts than its text has bytes.
-use Rattle.std.proofs.Common.{◌≡◌, ◌<◌, ◌≤◌, ◌+◌, ◌-◌, ◌^◌, ℕ, List, [], ◌∷◌, ◌++◌, length, Result, Ok, Err, ap, ◌∙◌, arith, length-append, length-drop, IfOk}
+-- A selector has no more parts than there are tokens.
+use Rattle.std.proofs.Common.{◌≡◌, ◌<◌, ◌≤◌, ◌+◌, ◌^◌, ℕ, List, [], ◌∷◌, ◌++◌, length, Ok, ap, ◌∙◌, arith, length-append}
 use Rattle.std.specs.List.{sum_by}
 use Rattle.std.proofs.lemmas.List.Sums.{sum_by-cons}
 use Rattle.std.proofs.lemmas.List.{length-map}
-use Rattle.tx_read.specs.Reading.{Items}
 use Rattle.tx_lex.specs.declared.token.Token.{Token}
-use Rattle.tx_lex.specs.Lexing.{Spot, start_of, lexed}
-use Rattle.tx_lex.specs.IsLexed.{IsTokenAt, IsLexed}
-use Rattle.tx_lex.proofs.LongestTokens.{longest-some_bytes}
-use Rattle.tx_lex.proofs.Scanning.{lexed-exact}
-use Rattle.tx_lex.specs.Lexemes.{Lexeme, lexeme}
+use Rattle.tx_lex.specs.Lexemes.{Lexeme, lexeme, lexemes}
 use Rattle.tx_select.specs.Grammar.{AreParts, IsCompound, AreCompounds, IsWhole}
 use Rattle.tx_select.specs.Specificity.{IsSmall}
-use Rattle.tx_select.specs.Texts.{tokens_of, IsSelectorText}
+use Rattle.tx_select.specs.SelectorReading.{whole_at}
 use Rattle.tx_select.specs.declared.value.Part.{Part}
 use Rattle.tx_select.specs.declared.value.Compound.{Compound}
-use Rattle.tx_select.specs.declared.value.Selector.{Selector}
-use Rattle.tx_select.specs.declared.fault.SelectFault.{SelectFault}
 use Rattle.tx_select.proofs.Found.{part-some}
+use Rattle.tx_select.proofs.FoundWhole.{whole-found}
 
 -- the parts of all compounds
 abbrev parts_of : List Compound → ℕ
@@ -46,25 +40,10 @@ whole-few : (ts : List Lexeme) (compounds : List Compound) → IsWhole ts compou
 whole-few ts compounds is =
     omega (arith, split ts is.before (is.middle ++ is.behind) is.parts, length-append is.middle is.behind, compounds-few is.middle compounds is.selector.joined)
 
--- each token has a byte
-tokens-few : (spot last : Spot) (tokens : List Token) → Items IsTokenAt spot tokens last → length tokens ≤ length spot.rest
-tokens-few spot last [] is = omega arith
-tokens-few spot last (token ∷ tokens) is =
-    let at : IsTokenAt spot token is.0 = is.1.0 in
-    let less : length is.0.rest ≡ length spot.rest - at.n = ap (λ (s : Spot). length s.rest) at.rest ∙ length-drop at.n spot.rest in
-    omega (arith, less, longest-some_bytes token.kind spot.rest at.n at.longest.longest, at.longest.longest.within, tokens-few is.0 last tokens is.1.1)
-
-text-few : (text : List ℕ) → length (tokens_of text) ≤ length text
-text-few text =
-    let are : IsLexed text (lexed text) = (lexed-exact text).0 in
-    omega (arith, length-map (lexed text).tokens (lexeme text), tokens-few (start_of text) are.last (lexed text).tokens are.tokens)
-
-text-small : (text : List ℕ) (selector : Selector) → length text < 2 ^ 32 → IsSelectorText text selector → IsSmall selector
-text-small text selector fits is = record {
-  compounds = is.grammar.selector.few;
-  parts = omega (arith, fits, whole-few (tokens_of text) selector.compounds is.grammar, text-few text);
-}
-
-pub clause-small : (text : List ℕ) (result : Result Selector SelectFault) → length text < 2 ^ 32 → IfOk result (λ selector. IsSelectorText text selector) → IfOk result (λ selector. IsSmall selector)
-clause-small text (Ok selector) fits found = text-small text selector fits found
-clause-small text (Err fault) fits found = tt
+pub whole-small : (text : List ℕ) (tokens : List Token) (compounds : List Compound) (rest : List Lexeme) → whole_at (lexemes text tokens) ≡ Ok (compounds, rest) → length tokens < 2 ^ 32 → IsSmall (record { compounds = compounds })
+whole-small text tokens compounds rest is few =
+    let grammar : IsWhole (lexemes text tokens) compounds = whole-found (lexemes text tokens) rest compounds is in
+    record {
+      compounds = grammar.selector.few;
+      parts = omega (arith, few, length-map tokens (lexeme text), whole-few (lexemes text tokens) compounds grammar);
+    }

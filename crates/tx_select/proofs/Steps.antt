@@ -3,15 +3,15 @@ use Rattle.std.proofs.Common.{◌≡◌, ℕ, suc, ◌+◌, Bool, true, false, c
 use Rattle.std.proofs.lemmas.List.{append-nil}
 use Rattle.tx_lex.specs.declared.token.Token.{Token}
 use Rattle.tx_read.specs.Reading.{◌>>=◌, Run, behind_items, many, whole}
-use Rattle.tx_read.proofs.ManyItems.{many-item, many-end, many-fault}
+use Rattle.tx_read.proofs.lemmas.ManyItems.{many-item, many-end, many-fault}
 use Rattle.tx_lex.specs.Lexemes.{Lexeme, lexeme, lexemes, lexemes_from, is_blank, is_space, first_is}
 use Rattle.tx_select.specs.Lexemes.{begins_part}
-use Rattle.tx_select.specs.Reads.{Read, expected, spaces_behind, part_at, parts_at, compound_at, link_at, then_compounds, compounds_at}
-use Rattle.tx_select.specs.Texts.{Gives}
+use Rattle.tx_select.specs.SelectorReading.{Read, expected, spaces_behind, part_at, parts_at, compound_at, link_at, then_compounds, compounds_at}
+use Rattle.tx_select.specs.Answers.{GivesAmong}
 use Rattle.tx_select.specs.declared.value.Part.{Part}
 use Rattle.tx_select.specs.declared.value.Compound.{Compound}
 use Rattle.tx_select.specs.declared.fault.TokenFault.{TokenFault}
-use Rattle.tx_select.specs.declared.fault.TokenFault.TheVariants.{At, Memory}
+use Rattle.tx_select.specs.declared.fault.TokenFault.TheVariants.{At, NoMemory}
 use Rattle.tx_select.specs.declared.fault.SelectKind.{SelectKind}
 use Rattle.tx_select.proofs.Found.{parts-shrink}
 
@@ -57,9 +57,9 @@ parts-fault front start s fault begins is so_far =
     ap whole (sym so_far) ∙ ap (λ run. whole (behind_items front run)) (many-fault length (first_is begins_part) part_at parts-shrink s fault begins is)
 
 pub parts-err : (text : List ℕ) (tokens : List Token) (front : List Part) (start s : List Lexeme) (fault : TokenFault) → first_is begins_part s ≡ true
-    → Gives {A = Part} text tokens (Err fault) (part_at s) → behind_items front (all_from s) ≡ all_from start → Gives {A = List Part} text tokens (Err fault) (parts_at start)
+    → GivesAmong {A = Part} text tokens (Err fault) (part_at s) → behind_items front (all_from s) ≡ all_from start → GivesAmong {A = List Part} text tokens (Err fault) (parts_at start)
 parts-err text tokens front start s (At kind at) begins is so_far = parts-fault front start s (kind, lexemes_from text tokens at) begins is so_far
-parts-err text tokens front start s Memory begins is so_far = tt
+parts-err text tokens front start s NoMemory begins is so_far = tt
 
 -- ---- compounds
 
@@ -104,11 +104,11 @@ unfolding compounds_at
 compounds-bad rest child s fault is = ap (λ r. r >>= (λ found. behind_compound rest found.0 (link_at found.1))) is
 
 pub compounds-err : (text : List ℕ) (tokens : List Token) (most rest : ℕ) (child : Bool) (front : List Compound) (start : Read (List Compound)) (s : List Lexeme) (fault : TokenFault) → most ≡ suc rest
-    → Gives {A = Compound} text tokens (Err fault) (compound_at child s) → with_front front (compounds_at most child s) ≡ start → Gives {A = List Compound} text tokens (Err fault) start
+    → GivesAmong {A = Compound} text tokens (Err fault) (compound_at child s) → with_front front (compounds_at most child s) ≡ start → GivesAmong {A = List Compound} text tokens (Err fault) start
 compounds-err text tokens most rest child front start s (At kind at) count is so_far =
     sym so_far ∙ ap (λ n. with_front front (compounds_at n child s)) count
     ∙ ap (with_front front) (compounds-bad rest child s (kind, lexemes_from text tokens at) is)
-compounds-err text tokens most rest child front start s Memory count is so_far = tt
+compounds-err text tokens most rest child front start s NoMemory count is so_far = tt
 
 -- the compound past the last one that is allowed
 pub compounds-past : (most : ℕ) (child : Bool) (front : List Compound) (start : Read (List Compound)) (s : List Lexeme) → most ≡ 0

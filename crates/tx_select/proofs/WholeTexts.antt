@@ -1,11 +1,12 @@
 -- The selector that a text is, and its first fault.
 use Rattle.std.proofs.Common.{◌≡◌, ◌⊎◌, inl, inr, ℕ, List, [], Option, Some, None, Result, Ok, Err, refl, ap, sym, ◌∙◌, subst, IfOk, IfErr}
+use Rattle.tx_read.specs.Answer.{Gives}
 use Rattle.tx_lex.specs.Lexing.{lexed}
 use Rattle.tx_lex.specs.declared.token.Fault.{Fault}
 use Rattle.tx_lex.specs.Lexemes.{Lexeme}
 use Rattle.tx_select.specs.Grammar.{IsWhole}
-use Rattle.tx_select.specs.Reads.{Read, whole_at}
-use Rattle.tx_select.specs.Texts.{tokens_of, end_of, place_of, IsSelectorText, StopsAtByte, StopsAtToken, judged, selector_of, GivesSelector, IsFirstFault}
+use Rattle.tx_select.specs.SelectorReading.{Read, whole_at}
+use Rattle.tx_select.specs.Texts.{tokens_of, end_of, place_of, IsSelectorText, StopsAtByte, StopsAtToken, judged, selector_of, told, IsFirstFault}
 use Rattle.tx_select.specs.declared.value.Compound.{Compound}
 use Rattle.tx_select.specs.declared.value.Selector.{Selector}
 use Rattle.tx_select.specs.declared.fault.SelectKind.{SelectKind}
@@ -68,6 +69,10 @@ fault-text text place (Some fault) (Ok found) sound is judges = inl (record {
 })
 fault-text text place None (Err wrong) sound is judges = inr (stops-token text place wrong.0 wrong.1 None sound is (refused-at (place_of (end_of text None) wrong.1) place judges))
 fault-text text place (Some fault) (Err wrong) sound is judges = inr (stops-token text place wrong.0 wrong.1 (Some fault) sound is (refused-at (place_of (end_of text (Some fault)) wrong.1) place judges))
+
+-- the selector of a text, or the place of its first fault
+abbrev pub GivesSelector : Result Selector SelectFault → Result Selector ℕ → Type 0
+GivesSelector = Gives {R = Selector} {A = Selector} (λ selector. selector) told
 
 pub clause-found : (text : List ℕ) (result : Result Selector SelectFault) → GivesSelector result (selector_of text) → IfOk result (λ selector. IsSelectorText text selector)
 unfolding selector_of

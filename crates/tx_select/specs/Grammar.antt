@@ -2,7 +2,7 @@
 use Rattle.std.specs.Prelude.{◌≡◌, ◌≢◌, ◌≤◌, ℕ, Bool, true, false, List, [], ◌∷◌, ◌++◌, length, drop, Option, Some, None}
 use Rattle.std.specs.List.{list_all, list_any}
 use Rattle.tx_lex.specs.declared.token.TokenKind.TheVariants.{Name, Hash, Mark}
-use Rattle.tx_tree.specs.Name.{IsName}
+use Rattle.tx_text.specs.Name.{IsName}
 use Rattle.tx_lex.specs.Lexemes.{Lexeme, is_space, is_blank}
 use Rattle.tx_select.specs.Pseudo.{pseudo_name}
 use Rattle.tx_select.specs.declared.value.Part.{Part}

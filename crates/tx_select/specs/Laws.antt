@@ -4,7 +4,7 @@ use Rattle.tx_read.specs.Reading.{IsLocal, Leaves}
 use Rattle.tx_lex.specs.Lexemes.{Lexeme, first_is}
 use Rattle.tx_select.specs.Lexemes.{goes_on}
 use Rattle.tx_select.specs.Grammar.{AreBlank, IsSelector, IsWhole}
-use Rattle.tx_select.specs.Reads.{selector_at, whole_at}
+use Rattle.tx_select.specs.SelectorReading.{selector_at, whole_at}
 use Rattle.tx_select.specs.Texts.{NoneBeginsSo}
 use Rattle.tx_select.specs.declared.value.Compound.{Compound}
 use Rattle.tx_select.specs.declared.fault.SelectKind.{SelectKind}

@@ -1,7 +1,8 @@
+pub mod Answers
 pub mod Grammar
 pub mod Laws
 pub mod Lexemes
 pub mod Pseudo
-pub mod Reads
+pub mod SelectorReading
 pub mod Specificity
 pub mod Texts

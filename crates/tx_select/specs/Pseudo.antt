@@ -1,5 +1,7 @@
 -- What the pseudo-classes are called.
-use Rattle.std.specs.Prelude.{ℕ, List, Option, Some, None, codes, bytes_eq, if◌then◌else◌}
+use Rattle.std.specs.Prelude.{ℕ, List, Option, codes, bytes_eq}
+use Rattle.std.specs.List.{find}
+use Rattle.tx_select.specs.declared.lexemes.TheConstants.{PSEUDO_NAMES}
 use Rattle.tx_select.specs.declared.value.PseudoName.{PseudoName}
 use Rattle.tx_select.specs.declared.value.PseudoName.TheVariants.{Hover, Focus, FocusWithin, Blur, Enabled, Disabled, Dark, Light, FirstChild, LastChild}
 
@@ -17,15 +19,4 @@ pseudo_name LastChild = codes "last-child"
 
 -- the pseudo-class of this name
 unfoldable pub pseudo_of : List ℕ → Option PseudoName
-pseudo_of name =
-    if bytes_eq name (codes "hover") then Some Hover
-    else if bytes_eq name (codes "focus") then Some Focus
-    else if bytes_eq name (codes "focus-within") then Some FocusWithin
-    else if bytes_eq name (codes "blur") then Some Blur
-    else if bytes_eq name (codes "enabled") then Some Enabled
-    else if bytes_eq name (codes "disabled") then Some Disabled
-    else if bytes_eq name (codes "dark") then Some Dark
-    else if bytes_eq name (codes "light") then Some Light
-    else if bytes_eq name (codes "first-child") then Some FirstChild
-    else if bytes_eq name (codes "last-child") then Some LastChild
-    else None
+pseudo_of name = find (λ pseudo. bytes_eq (pseudo_name pseudo) name) PSEUDO_NAMES

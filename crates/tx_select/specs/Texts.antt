@@ -1,34 +1,14 @@
--- Selectors as texts, and what the calls answer.
+-- Texts that are selectors.
 use Rattle.std.specs.Prelude.{◌≡◌, ◌⊎◌, ℕ, List, [], ◌∷◌, ◌++◌, length, Option, Some, None, Result, Ok, Err}
 use Rattle.tx_lex.specs.Lexing.{lexed}
-use Rattle.tx_lex.specs.declared.token.Token.{Token}
 use Rattle.tx_lex.specs.declared.token.Fault.{Fault}
-use Rattle.tx_lex.specs.Lexemes.{Lexeme, lexemes, lexemes_from}
+use Rattle.tx_lex.specs.Lexemes.{Lexeme, lexemes}
 use Rattle.tx_select.specs.Grammar.{IsWhole}
-use Rattle.tx_select.specs.Reads.{Read, whole_at}
+use Rattle.tx_select.specs.SelectorReading.{Read, whole_at}
 use Rattle.tx_select.specs.declared.value.Compound.{Compound}
 use Rattle.tx_select.specs.declared.value.Selector.{Selector}
 use Rattle.tx_select.specs.declared.fault.SelectFault.{SelectFault}
 use Rattle.tx_select.specs.declared.fault.SelectFault.TheVariants.{Grammar, NoMemory}
-use Rattle.tx_select.specs.declared.fault.TokenFault.{TokenFault}
-use Rattle.tx_select.specs.declared.fault.TokenFault.TheVariants.{At, Memory}
-
--- ---- over tokens
-
--- What a reader answers from a token on is what is read there, with the number of the token behind it; or the fault
--- with the number of the token where it is met; or that memory is wanting.
-abbrev pub Gives : {A : Type 0} → List ℕ → List Token → Result (A × ℕ) TokenFault → Read A → Type 0
-Gives text tokens (Ok found) read = read ≡ Ok (found.0, lexemes_from text tokens found.1)
-Gives text tokens (Err (At kind at)) read = read ≡ Err (kind, lexemes_from text tokens at)
-Gives text tokens (Err Memory) read = Unit {0}
-
--- the same of a whole selector
-abbrev pub GivesFrom : List ℕ → List Token → Result (Selector × ℕ) TokenFault → Read (List Compound) → Type 0
-GivesFrom text tokens (Ok found) read = read ≡ Ok (found.0.compounds, lexemes_from text tokens found.1)
-GivesFrom text tokens (Err (At kind at)) read = read ≡ Err (kind, lexemes_from text tokens at)
-GivesFrom text tokens (Err Memory) read = Unit {0}
-
--- ---- texts
 
 -- the tokens of a text, up to the first byte that is at fault
 abbrev pub tokens_of : List ℕ → List Lexeme
@@ -77,10 +57,10 @@ judged text fault (Err wrong) = Err (place_of (end_of text fault) wrong.1)
 unfoldable pub selector_of : List ℕ → Result Selector ℕ
 selector_of text = judged text (lexed text).fault (whole_at (tokens_of text))
 
-abbrev pub GivesSelector : Result Selector SelectFault → Result Selector ℕ → Type 0
-GivesSelector (Ok selector) read = read ≡ Ok selector
-GivesSelector (Err (Grammar place)) read = read ≡ Err place
-GivesSelector (Err NoMemory) read = Unit {0}
+-- what a fault tells: its place
+abbrev pub told : SelectFault → Option ℕ
+told (Grammar place) = Some place
+told NoMemory = None
 
 -- the first fault of a text
 abbrev pub IsFirstFault : List ℕ → SelectFault → Type 0

@@ -19,7 +19,7 @@ pub enum TokenFault {
     /// the tokens run out too soon this is how many there are, or more.
     At { kind: SelectKind, at: usize },
     /// Want of memory.
-    Memory,
+    NoMemory,
 }
 
 /// Why a text wasn't read.
@@ -34,12 +34,12 @@ pub enum SelectFault {
 }
 
 impl From<AllocError> for TokenFault {
-    ghost use Rattle.tx_select.specs.declared.fault.TokenFault.TheVariants.{Memory};
+    ghost use Rattle.tx_select.specs.declared.fault.TokenFault.TheVariants.{NoMemory};
 
-    ghost from_gives = { λ _ fault. fault ≡ Memory };
+    ghost from_gives = { λ _ fault. fault ≡ NoMemory };
 
     fn from(_: AllocError) -> Self {
-        TokenFault::Memory
+        TokenFault::NoMemory
     }
 }
 

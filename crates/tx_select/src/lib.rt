@@ -14,7 +14,7 @@ mod texts;
 mod value;
 
 pub use fault::{SelectFault, SelectKind, TokenFault};
-pub use lexemes::{begins_compound, name_of};
+pub use lexemes::begins_compound;
 pub use specific::specificity;
 pub use texts::{read_selector, selector_at};
 pub use value::{Compound, Compounds, Part, Parts, Pseudo, PseudoName, Selector};

@@ -2,22 +2,23 @@
 //!
 //! Each call reads from the token of a number on, and answers what it read with the number of the
 //! token behind it.
-ghost use Rattle.std.specs.Prelude.{◌≡◌, ◌<◌, ℕ, List, Bool, true, length, ◌&&◌, ◌||◌, drop, IfOk, Some, None, if◌then◌else◌};
+ghost use Rattle.std.specs.Prelude.{◌≡◌, ◌<◌, ◌≤◌, ℕ, List, Bool, true, length, ◌&&◌, ◌||◌, drop, IfOk, Some, None, if◌then◌else◌};
 ghost use Rattle.std.specs.Option.{SomeIff};
-ghost use Rattle.tx_tree.specs.Name.{IsName, is_name};
+ghost use Rattle.tx_text.specs.Name.{IsName, is_name};
 ghost use Rattle.tx_lex.specs.Lexemes.{token_bytes, lexeme, lexemes, lexemes_from, IsNth, first_is, is_name_token, is_space};
 ghost use Rattle.tx_select.specs.Lexemes.{begins_part};
-ghost use Rattle.tx_select.specs.Reads.{class_at, pseudo_at, part_at, parts_at, kind_at, compound_at, spaces_at, joint_at, link_at, selector_at};
-ghost use Rattle.tx_select.specs.Texts.{Gives};
+ghost use Rattle.tx_select.specs.SelectorReading.{class_at, pseudo_at, part_at, parts_at, kind_at, compound_at, spaces_at, joint_at, link_at, selector_at};
+ghost use Rattle.tx_select.specs.Answers.{GivesAmong};
 ghost use Rattle.tx_select.specs.declared.fault.SelectKind.TheVariants.{Expected};
 ghost use Rattle.tx_select.specs.declared.fault.TokenFault.TheVariants.{At};
 
 use crate::fault::{SelectKind, TokenFault};
-use crate::lexemes::{begins_compound, begins_part, is_child_mark, name_of, pseudo_of};
+use crate::lexemes::{begins_compound, begins_part, is_child_mark, pseudo_of};
 use crate::value::{Compound, Compounds, Part, Parts, Selector};
 use std::alloc::Global;
-use tx_lex::{Token, TokenKind, behind, token_at, token_bytes};
-use tx_tree::Name;
+use tx_lex::{Token, TokenKind, token_at, token_bytes};
+use tx_read::behind;
+use tx_text::Name;
 
 // The most compounds of a selector.
 const MOST_COMPOUNDS: usize = 16;
@@ -36,7 +37,7 @@ pub fn expected(at: usize) -> TokenFault
 fn id_of(text: &[u8], hash: Token) -> Option<Name>
     ensures { SomeIff result (IsName (drop 1 (token_bytes text.now hash))) (drop 1 (token_bytes text.now hash)) }
 {
-    name_of(behind(token_bytes(text, hash), 1))
+    Name::of_bytes(behind(token_bytes(text, hash), 1))
 }
 
 /// The name that a token is.
@@ -44,7 +45,7 @@ fn name_in(text: &[u8], token: Token) -> Option<Name>
     ensures { result ≡ (if is_name_token token.kind && is_name (token_bytes text.now token) then Some (token_bytes text.now token) else None) }
 {
     if token.kind.is_name() {
-        name_of(token_bytes(text, token))
+        Name::of_bytes(token_bytes(text, token))
     } else {
         None
     }
@@ -52,7 +53,7 @@ fn name_in(text: &[u8], token: Token) -> Option<Name>
 
 /// A class, of which the `.` stands before.
 fn class(text: &[u8], tokens: &[Token], at: usize) -> Result<(Part, usize), TokenFault>
-    ensures gives { Gives text.now tokens.now result (class_at (lexemes_from text.now tokens.now at)) }
+    ensures gives { GivesAmong text.now tokens.now result (class_at (lexemes_from text.now tokens.now at)) }
     ensures behind { IfOk result (λ found. at < found.1) }
 {
     let Some(token) = token_at(tokens, at) else {
@@ -66,7 +67,7 @@ fn class(text: &[u8], tokens: &[Token], at: usize) -> Result<(Part, usize), Toke
 
 /// A pseudo-class, of which the `:` stands before.
 fn pseudo(text: &[u8], tokens: &[Token], at: usize) -> Result<(Part, usize), TokenFault>
-    ensures gives { Gives text.now tokens.now result (pseudo_at (lexemes_from text.now tokens.now at)) }
+    ensures gives { GivesAmong text.now tokens.now result (pseudo_at (lexemes_from text.now tokens.now at)) }
     ensures behind { IfOk result (λ found. at < found.1) }
 {
     let Some(token) = token_at(tokens, at) else {
@@ -85,9 +86,9 @@ fn pseudo(text: &[u8], tokens: &[Token], at: usize) -> Result<(Part, usize), Tok
 }
 
 /// One part.
-#[tactic(auto, unfolding(crate::specs::Reads::part_at))]
+#[tactic(auto, unfolding(crate::specs::SelectorReading::part_at))]
 fn part(text: &[u8], tokens: &[Token], at: usize) -> Result<(Part, usize), TokenFault>
-    ensures gives { Gives text.now tokens.now result (part_at (lexemes_from text.now tokens.now at)) }
+    ensures gives { GivesAmong text.now tokens.now result (part_at (lexemes_from text.now tokens.now at)) }
     ensures behind { IfOk result (λ found. at < found.1) }
 {
     let Some(first) = token_at(tokens, at) else {
@@ -120,14 +121,15 @@ fn part_begins(tokens: &[Token], at: usize) -> bool
 }
 
 /// Parts directly behind each other, as long as one begins.
-#[tactic(auto, unfolding(crate::specs::Reads::parts_at))]
+#[tactic(auto, unfolding(crate::specs::SelectorReading::parts_at))]
 fn parts(
     alloc: Global,
     text: &[u8],
     tokens: &[Token],
     at: usize,
 ) -> Result<(Parts, usize), TokenFault>
-    ensures { Gives text.now tokens.now result (parts_at (lexemes_from text.now tokens.now at)) }
+    ensures gives { GivesAmong text.now tokens.now result (parts_at (lexemes_from text.now tokens.now at)) }
+    ensures behind { IfOk result (λ found. at ≤ found.1) }
 {
     let mut parts = Vec::new(alloc);
     let mut behind = at;
@@ -137,7 +139,7 @@ fn parts(
             Err(fault) => return Err(fault),
         };
         let Ok(()) = parts.push(found.0) else {
-            return Err(TokenFault::Memory);
+            return Err(TokenFault::NoMemory);
         };
         behind = found.1;
     }
@@ -145,15 +147,16 @@ fn parts(
 }
 
 /// The name of the kind with which a compound begins; none behind `*` or where a part begins.
-#[tactic(auto, unfolding(crate::specs::Reads::kind_at))]
+#[tactic(auto, unfolding(crate::specs::SelectorReading::kind_at))]
 fn kind(text: &[u8], tokens: &[Token], at: usize) -> Result<(Option<Name>, usize), TokenFault>
-    ensures { Gives text.now tokens.now result (kind_at (lexemes_from text.now tokens.now at)) }
+    ensures gives { GivesAmong text.now tokens.now result (kind_at (lexemes_from text.now tokens.now at)) }
+    ensures behind { IfOk result (λ found. at ≤ found.1) }
 {
     let Some(first) = token_at(tokens, at) else {
         return Err(expected(at));
     };
     if first.kind.is_name() {
-        return match name_of(token_bytes(text, first)) {
+        return match Name::of_bytes(token_bytes(text, first)) {
             Some(name) => Ok((Some(name), at + 1)),
             None => Err(expected(at)),
         };
@@ -168,7 +171,7 @@ fn kind(text: &[u8], tokens: &[Token], at: usize) -> Result<(Option<Name>, usize
 }
 
 /// One compound, which is joined so to the one before.
-#[tactic(auto, unfolding(crate::specs::Reads::compound_at))]
+#[tactic(auto, unfolding(crate::specs::SelectorReading::compound_at))]
 fn compound(
     alloc: Global,
     text: &[u8],
@@ -176,22 +179,13 @@ fn compound(
     at: usize,
     child: bool,
 ) -> Result<(Compound, usize), TokenFault>
-    ensures { Gives text.now tokens.now result (compound_at child (lexemes_from text.now tokens.now at)) }
+    ensures gives { GivesAmong text.now tokens.now result (compound_at child (lexemes_from text.now tokens.now at)) }
+    ensures behind { IfOk result (λ found. at ≤ found.1) }
 {
-    match kind(text, tokens, at) {
-        Ok(kind) => match parts(alloc, text, tokens, kind.1) {
-            Ok(parts) => Ok((
-                Compound {
-                    child,
-                    kind: kind.0,
-                    parts: parts.0,
-                },
-                parts.1,
-            )),
-            Err(fault) => Err(fault),
-        },
-        Err(fault) => Err(fault),
-    }
+    let (kind, behind) = kind(text, tokens, at)?;
+    let (parts, behind) = parts(alloc, text, tokens, behind)?;
+    let compound = Compound { child, kind, parts };
+    Ok((compound, behind))
 }
 
 /// Whether there was a space, or this is one.
@@ -202,9 +196,10 @@ fn with_space(spaced: bool, kind: TokenKind) -> bool
 }
 
 /// Passes spaces and comments, and says whether there was a space.
-#[tactic(auto, unfolding(crate::specs::Reads::spaces_at))]
+#[tactic(auto, unfolding(crate::specs::SelectorReading::spaces_at))]
 pub fn spaces(tokens: &[Token], at: usize) -> (bool, usize)
-    ensures { (text : List ℕ) → spaces_at (lexemes_from text tokens.now at) ≡ (result.0, lexemes_from text tokens.now result.1) }
+    ensures gives { (text : List ℕ) → spaces_at (lexemes_from text tokens.now at) ≡ (result.0, lexemes_from text tokens.now result.1) }
+    ensures behind { at ≤ result.1 }
 {
     let mut spaced = false;
     let mut behind = at;
@@ -220,7 +215,8 @@ pub fn spaces(tokens: &[Token], at: usize) -> (bool, usize)
 
 /// Whether a compound comes behind spaces and comments, and then whether as a child.
 fn joint(tokens: &[Token], at: usize, spaced: bool) -> (Option<bool>, usize)
-    ensures { (text : List ℕ) → joint_at spaced (lexemes_from text tokens.now at) ≡ (result.0, lexemes_from text tokens.now result.1) }
+    ensures gives { (text : List ℕ) → joint_at spaced (lexemes_from text tokens.now at) ≡ (result.0, lexemes_from text tokens.now result.1) }
+    ensures behind { at ≤ result.1 }
 {
     let Some(first) = token_at(tokens, at) else {
         return (None, at);
@@ -236,23 +232,25 @@ fn joint(tokens: &[Token], at: usize, spaced: bool) -> (Option<bool>, usize)
 }
 
 /// Whether a compound comes behind this one, and then whether as a child.
-#[tactic(auto, unfolding(crate::specs::Reads::link_at))]
+#[tactic(auto, unfolding(crate::specs::SelectorReading::link_at))]
 fn link(tokens: &[Token], at: usize) -> (Option<bool>, usize)
-    ensures { (text : List ℕ) → link_at (lexemes_from text tokens.now at) ≡ (result.0, lexemes_from text tokens.now result.1) }
+    ensures gives { (text : List ℕ) → link_at (lexemes_from text tokens.now at) ≡ (result.0, lexemes_from text tokens.now result.1) }
+    ensures behind { at ≤ result.1 }
 {
     let blank = spaces(tokens, at);
     joint(tokens, blank.1, blank.0)
 }
 
 /// Compounds as long as they go on, and the spaces and comments behind them.
-#[tactic(auto, unfolding(crate::specs::Reads::selector_at))]
+#[tactic(auto, unfolding(crate::specs::SelectorReading::selector_at))]
 pub fn compounds(
     alloc: Global,
     text: &[u8],
     tokens: &[Token],
     at: usize,
 ) -> Result<(Compounds, usize), TokenFault>
-    ensures { Gives text.now tokens.now result (selector_at (lexemes_from text.now tokens.now at)) }
+    ensures gives { GivesAmong text.now tokens.now result (selector_at (lexemes_from text.now tokens.now at)) }
+    ensures behind { IfOk result (λ found. at ≤ found.1) }
 {
     let mut compounds = Vec::new(alloc);
     let mut child = false;
@@ -263,7 +261,7 @@ pub fn compounds(
             Err(fault) => return Err(fault),
         };
         let Ok(()) = compounds.push(found.0) else {
-            return Err(TokenFault::Memory);
+            return Err(TokenFault::NoMemory);
         };
         let link = link(tokens, found.1);
         behind = link.1;

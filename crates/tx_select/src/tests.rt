@@ -1,29 +1,10 @@
 use crate::{
-    Part, PseudoName, SelectFault, SelectKind, Selector, TokenFault, read_selector, selector_at,
-    specificity,
+    Part, SelectFault, SelectKind, Selector, TokenFault, read_selector, selector_at, specificity,
 };
 use std::alloc::{AllocError, Global};
 use std::test::Fail;
+use tx_expect::{each_line, expect};
 use tx_lex::scan;
-
-fn expect(fine: bool, what: &'static str) -> Result<(), Fail> {
-    if fine { Ok(()) } else { Err(Fail::from(what)) }
-}
-
-fn pseudo_text(name: PseudoName) -> &'static str {
-    match name {
-        PseudoName::Hover => ":hover",
-        PseudoName::Focus => ":focus",
-        PseudoName::FocusWithin => ":focus-within",
-        PseudoName::Blur => ":blur",
-        PseudoName::Enabled => ":enabled",
-        PseudoName::Disabled => ":disabled",
-        PseudoName::Dark => ":dark",
-        PseudoName::Light => ":light",
-        PseudoName::FirstChild => ":first-child",
-        PseudoName::LastChild => ":last-child",
-    }
-}
 
 fn push_part(spelled: &mut String, part: &Part) -> Result<(), AllocError> {
     match part {
@@ -35,7 +16,10 @@ fn push_part(spelled: &mut String, part: &Part) -> Result<(), AllocError> {
             spelled.push_str(".")?;
             spelled.push_str(name.as_str())
         }
-        Part::Pseudo(name) => spelled.push_str(pseudo_text(*name)),
+        Part::Pseudo(name) => {
+            spelled.push_str(":")?;
+            spelled.push_str(name.name())
+        }
     }
 }
 
@@ -61,168 +45,134 @@ fn spelling(alloc: Global, selector: &Selector) -> Result<String, AllocError> {
     Ok(spelled)
 }
 
-/// The text is read as the selector of this spelling.
-fn reads(alloc: Global, text: &str, wanted: &str) -> Result<(), Fail> {
+/// The spelling of the copy of the selector that a text is, or the place of its first fault.
+fn answer(alloc: Global, text: &str) -> Result<String, Fail> {
+    if text.len() >= 1000 {
+        return Err(Fail::from("a long text"));
+    }
+    match read_selector(alloc, text) {
+        Ok(selector) => Ok(spelling(alloc, &selector.copy()?)?),
+        Err(SelectFault::Grammar { place }) => Ok(format!(in alloc; "at {place}")?),
+        Err(SelectFault::NoMemory) => Err(Fail::from("no memory")),
+    }
+}
+
+/// The three counts of the selector that a text is.
+fn counts(alloc: Global, text: &str) -> Result<String, Fail> {
     if text.len() >= 1000 {
         return Err(Fail::from("a long text"));
     }
     let Ok(selector) = read_selector(alloc, text) else {
         return Err(Fail::from("refused"));
     };
-    let spelled = spelling(alloc, &selector)?;
-    expect(spelled.as_str() == wanted, "the selector")?;
-    let copy = selector.copy()?;
-    let spelled = spelling(alloc, &copy)?;
-    expect(spelled.as_str() == wanted, "its copy")
-}
-
-/// The text is refused at this place.
-fn faults(alloc: Global, text: &str, place: u32) -> Result<(), Fail> {
-    if text.len() >= 1000 {
-        return Err(Fail::from("a long text"));
-    }
-    expect(
-        read_selector(alloc, text).err() == Some(SelectFault::Grammar { place }),
-        "the fault",
-    )
+    let (ids, classes, types) = specificity(&selector);
+    Ok(format!(in alloc; "{ids} {classes} {types}")?)
 }
 
 #[test]
 fn selectors_are_read(rt: HostRuntime) -> Result<(), Fail> {
-    let cases: [(&str, &str); 29] = [
-        ("A", "A"),
-        ("*", "*"),
-        ("_", "_"),
-        ("a-b_9", "a-b_9"),
-        ("#a", "#a"),
-        ("#_-", "#_-"),
-        (".a", ".a"),
-        (":hover", ":hover"),
-        ("*.a", ".a"),
-        ("*#a", "#a"),
-        ("A#b.c:dark#d", "A#b.c:dark#d"),
-        (".a.a", ".a.a"),
-        ("A B", "A B"),
-        ("A>B", "A>B"),
-        ("A > B", "A>B"),
-        ("A/**/>/**/B", "A>B"),
-        ("A /**/ B", "A B"),
-        ("A/**/ B", "A B"),
-        ("A /**/B", "A B"),
-        ("A  \n\tB", "A B"),
-        (" A ", "A"),
-        ("/**/A/**/", "A"),
-        (" /**/ A /**/ ", "A"),
-        ("A *", "A *"),
-        ("* > *", "*>*"),
-        ("A B>C D", "A B>C D"),
-        ("#a .b:focus-within", "#a .b:focus-within"),
-        (":first-child > :last-child", ":first-child>:last-child"),
-        (
-            "a b c d e f g h i j k l m n o p",
-            "a b c d e f g h i j k l m n o p",
-        ),
-    ];
-    for (text, wanted) in cases {
-        reads(rt.alloc(), text, wanted)?;
-    }
-    Ok(())
-}
-
-#[test]
-fn names_have_at_most_64_bytes(rt: HostRuntime) -> Result<(), Fail> {
-    let long = "#a234567890123456789012345678901234567890123456789012345678901234";
-    reads(rt.alloc(), long, long)?;
-    faults(
-        rt.alloc(),
-        "#a2345678901234567890123456789012345678901234567890123456789012345",
-        0,
-    )?;
-    faults(
-        rt.alloc(),
-        "A .a2345678901234567890123456789012345678901234567890123456789012345",
-        3,
-    )?;
-    faults(
-        rt.alloc(),
-        "A >a2345678901234567890123456789012345678901234567890123456789012345",
-        3,
+    let alloc = rt.alloc();
+    each_line(
+        "\
+A => A\n\
+* => *\n\
+_ => _\n\
+a-b_9 => a-b_9\n\
+#a => #a\n\
+#_- => #_-\n\
+.a => .a\n\
+:hover:focus:focus-within:blur:enabled => :hover:focus:focus-within:blur:enabled\n\
+:disabled:dark:light:first-child:last-child => :disabled:dark:light:first-child:last-child\n\
+*.a => .a\n\
+*#a => #a\n\
+A#b.c:dark#d => A#b.c:dark#d\n\
+.a.a => .a.a\n\
+A B => A B\n\
+A>B => A>B\n\
+A > B => A>B\n\
+A/**/>/**/B => A>B\n\
+A /**/ B => A B\n\
+A/**/ B => A B\n\
+A /**/B => A B\n\
+A  \tB => A B\n\
+\u{20}A  => A\n\
+/**/A/**/ => A\n\
+\u{20}/**/ A /**/  => A\n\
+A * => A *\n\
+* > * => *>*\n\
+A B>C D => A B>C D\n\
+#a .b:focus-within => #a .b:focus-within\n\
+a b c d e f g h i j k l m n o p => a b c d e f g h i j k l m n o p\n\
+#a234567890123456789012345678901234567890123456789012345678901234 => #a234567890123456789012345678901234567890123456789012345678901234",
+        |text| answer(alloc, text),
     )
 }
 
 #[test]
 fn the_first_fault_is_told(rt: HostRuntime) -> Result<(), Fail> {
-    let cases: [(&str, u32); 38] = [
-        ("", 0),
-        ("  ", 2),
-        ("/**/", 4),
-        ("/*", 0),
-        ("> a", 0),
-        ("a >", 3),
-        ("a > ", 4),
-        ("a > > b", 4),
-        ("**", 1),
-        ("*A", 1),
-        ("A*", 1),
-        (".a*", 2),
-        ("#a*", 2),
-        ("A. b", 2),
-        ("A: hover", 2),
-        ("A .", 3),
-        ("A.", 2),
-        ("A:", 2),
-        (".#a", 1),
-        (":.a", 1),
-        ("A./**/b", 2),
-        ("A/**/B", 5),
-        ("A/**/.b", 5),
-        ("#1", 0),
-        ("#-a", 0),
-        ("A #9b", 2),
-        ("A.5", 1),
-        (".5", 0),
-        (":hovers", 1),
-        ("A:Hover", 2),
-        ("A,B", 1),
-        ("A {", 2),
-        ("A 5", 2),
-        ("A $a", 2),
-        ("A \u{e4}", 2),
-        ("A.\u{e4}", 2),
-        ("A B \u{e4} >", 4),
-        ("a b c d e f g h i j k l m n o p q", 32),
-    ];
-    for (text, place) in cases {
-        faults(rt.alloc(), text, place)?;
-    }
-    faults(rt.alloc(), "a>b>c>d>e>f>g>h>i>j>k>l>m>n>o>p>q", 32)?;
-    faults(rt.alloc(), "a b c d e f g h i j k l m n o p>", 32)?;
-    faults(rt.alloc(), "A > /*", 4)
+    let alloc = rt.alloc();
+    each_line(
+        " => at 0\n\
+\u{20}\u{20} => at 2\n\
+/**/ => at 4\n\
+/* => at 0\n\
+> a => at 0\n\
+a > => at 3\n\
+a >  => at 4\n\
+a > > b => at 4\n\
+** => at 1\n\
+*A => at 1\n\
+A* => at 1\n\
+.a* => at 2\n\
+#a* => at 2\n\
+A. b => at 2\n\
+A: hover => at 2\n\
+A . => at 3\n\
+A. => at 2\n\
+A: => at 2\n\
+.#a => at 1\n\
+:.a => at 1\n\
+A./**/b => at 2\n\
+A/**/B => at 5\n\
+A/**/.b => at 5\n\
+#1 => at 0\n\
+#-a => at 0\n\
+A #9b => at 2\n\
+A.5 => at 1\n\
+.5 => at 0\n\
+:hovers => at 1\n\
+A:Hover => at 2\n\
+A,B => at 1\n\
+A { => at 2\n\
+A 5 => at 2\n\
+A $a => at 2\n\
+A \u{e4} => at 2\n\
+A.\u{e4} => at 2\n\
+A B \u{e4} > => at 4\n\
+A > /* => at 4\n\
+#a2345678901234567890123456789012345678901234567890123456789012345 => at 0\n\
+A .a2345678901234567890123456789012345678901234567890123456789012345 => at 3\n\
+A >a2345678901234567890123456789012345678901234567890123456789012345 => at 3\n\
+a b c d e f g h i j k l m n o p q => at 32\n\
+a>b>c>d>e>f>g>h>i>j>k>l>m>n>o>p>q => at 32\n\
+a b c d e f g h i j k l m n o p> => at 32",
+        |text| answer(alloc, text),
+    )
 }
 
 #[test]
 fn specificity_counts(rt: HostRuntime) -> Result<(), Fail> {
-    let cases: [(&str, (u32, u32, u32)); 6] = [
-        ("*", (0, 0, 0)),
-        ("A", (0, 0, 1)),
-        ("A:hover > *", (0, 1, 1)),
-        ("A B C", (0, 0, 3)),
-        ("#a.b.c:dark", (1, 3, 0)),
-        ("A#b *#c .d", (2, 1, 1)),
-    ];
-    for (text, wanted) in cases {
-        if text.len() >= 1000 {
-            return Err(Fail::from("a long text"));
-        }
-        let Ok(selector) = read_selector(rt.alloc(), text) else {
-            return Err(Fail::from("refused"));
-        };
-        let found = specificity(&selector);
-        expect(found.0 == wanted.0, "the ids")?;
-        expect(found.1 == wanted.1, "the classes")?;
-        expect(found.2 == wanted.2, "the types")?;
-    }
-    Ok(())
+    let alloc = rt.alloc();
+    each_line(
+        "\
+* => 0 0 0\n\
+A => 0 0 1\n\
+A:hover > * => 0 1 1\n\
+A B C => 0 0 3\n\
+#a.b.c:dark => 1 3 0\n\
+A#b *#c .d => 2 1 1",
+        |text| counts(alloc, text),
+    )
 }
 
 #[test]

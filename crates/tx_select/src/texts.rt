@@ -1,9 +1,11 @@
 //! Selectors that stand among tokens, and those that are a whole text.
-ghost use Rattle.std.specs.Prelude.{◌≡◌, ◌<◌, ◌^◌, ℕ, List, length, IfOk, IfErr, Ok};
+ghost use Rattle.std.specs.Prelude.{◌≡◌, ◌<◌, ◌≤◌, ◌^◌, ℕ, List, length, IfOk, IfErr, Ok};
 ghost use Rattle.tx_lex.specs.Lexemes.{lexemes, lexemes_from};
-ghost use Rattle.tx_select.specs.Reads.{selector_at, whole_at, ended};
+ghost use Rattle.tx_select.specs.SelectorReading.{selector_at, whole_at, ended};
 ghost use Rattle.tx_select.specs.Specificity.{IsSmall};
-ghost use Rattle.tx_select.specs.Texts.{Gives, GivesFrom, GivesSelector, end_of, place_of, selector_of, IsSelectorText, IsFirstFault};
+ghost use Rattle.tx_read.specs.Answer.{Gives};
+ghost use Rattle.tx_select.specs.Answers.{told_in, compounds_with_rest, GivesAmong};
+ghost use Rattle.tx_select.specs.Texts.{told, end_of, place_of, selector_of, IsSelectorText, IsFirstFault};
 ghost use Rattle.tx_select.specs.declared.value.Selector.{Selector};
 
 use crate::fault::{SelectFault, TokenFault};
@@ -22,29 +24,26 @@ pub fn selector_at(
     tokens: &[Token],
     at: usize,
 ) -> Result<(Selector, usize), TokenFault>
-    ensures { GivesFrom text.now tokens.now result (selector_at (lexemes_from text.now tokens.now at)) }
+    ensures gives { Gives (compounds_with_rest text.now tokens.now) (told_in text.now tokens.now) result (selector_at (lexemes_from text.now tokens.now at)) }
+    ensures behind { IfOk result (λ found. at ≤ found.1) }
 {
-    match compounds(alloc, text, tokens, at) {
-        Ok(found) => Ok((Selector { compounds: found.0 }, found.1)),
-        Err(fault) => Err(fault),
-    }
+    let (compounds, behind) = compounds(alloc, text, tokens, at)?;
+    Ok((Selector { compounds }, behind))
 }
 
 /// The tokens are one selector with spaces and comments round it.
-#[tactic(auto, unfolding(crate::specs::Reads::whole_at))]
+#[tactic(auto, unfolding(crate::specs::SelectorReading::whole_at))]
 fn whole(alloc: Global, text: &[u8], tokens: &[Token]) -> Result<(Compounds, usize), TokenFault>
-    ensures { Gives text.now tokens.now result (whole_at (lexemes_from text.now tokens.now 0)) }
+    ensures { GivesAmong text.now tokens.now result (whole_at (lexemes_from text.now tokens.now 0)) }
 {
     let before = spaces(tokens, 0);
-    match compounds(alloc, text, tokens, before.1) {
-        Ok(found) => ended(tokens, found),
-        Err(fault) => Err(fault),
-    }
+    let found = compounds(alloc, text, tokens, before.1)?;
+    ended(tokens, found)
 }
 
 /// Nothing more stands behind these compounds.
 fn ended(tokens: &[Token], found: (Compounds, usize)) -> Result<(Compounds, usize), TokenFault>
-    ensures { (text : List ℕ) → Gives text tokens.now result (ended found.0 (lexemes_from text tokens.now found.1)) }
+    ensures { (text : List ℕ) → GivesAmong text tokens.now result (ended found.0 (lexemes_from text tokens.now found.1)) }
 {
     match token_at(tokens, found.1) {
         Some(_) => Err(expected(found.1)),
@@ -74,15 +73,15 @@ fn place_of(tokens: &[Token], at: usize, end: u32) -> u32
     }
 }
 
-/// The selector that bytes are.
+/// The selector that a text is.
 #[tactic(auto, unfolding(crate::specs::Texts::selector_of))]
-fn read(alloc: Global, text: &[u8]) -> Result<Selector, SelectFault>
+fn read(alloc: Global, text: &str) -> Result<Selector, SelectFault>
     requires { length text.now < 2 ^ 32 }
-    ensures { GivesSelector result (selector_of text.now) }
+    ensures exact { Gives (λ selector. selector) told result (selector_of text.now) }
+    ensures small { IfOk result (λ selector. IsSmall selector) }
 {
-    let Ok(Scanned { tokens, fault }) = scan(alloc, text) else {
-        return Err(SelectFault::NoMemory);
-    };
+    let text = text.as_bytes();
+    let Scanned { tokens, fault } = scan(alloc, text)?;
     match whole(alloc, text, tokens.as_slice()) {
         Ok(found) => match fault {
             Some(fault) => Err(SelectFault::Grammar { place: fault.place }),
@@ -91,7 +90,7 @@ fn read(alloc: Global, text: &[u8]) -> Result<Selector, SelectFault>
         Err(TokenFault::At { kind: _, at }) => Err(SelectFault::Grammar {
             place: place_of(tokens.as_slice(), at, end_of(text, fault)),
         }),
-        Err(TokenFault::Memory) => Err(SelectFault::NoMemory),
+        Err(TokenFault::NoMemory) => Err(SelectFault::NoMemory),
     }
 }
 
@@ -105,10 +104,10 @@ pub fn read_selector(alloc: Global, text: &str) -> Result<Selector, SelectFault>
     // It has few enough parts to be counted.
     ensures small { IfOk result (λ selector. IsSmall selector) }
     // What is in the grammar is read, unless memory is wanting.
-    ensures only { (selector : Selector) → IsSelectorText text.now selector → GivesSelector result (Ok selector) }
+    ensures only { (selector : Selector) → IsSelectorText text.now selector → Gives (λ selector. selector) told result (Ok selector) }
     // A fault is the first one.
     ensures fault { IfErr result (λ fault. IsFirstFault text.now fault) }
-    ensures exact { GivesSelector result (selector_of text.now) }
+    ensures exact { Gives (λ selector. selector) told result (selector_of text.now) }
 {
-    read(alloc, text.as_bytes())
+    read(alloc, text)
 }

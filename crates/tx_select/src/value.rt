@@ -1,9 +1,9 @@
 //! Selectors as values.
 ghost use Rattle.std.specs.Prelude.{◌≡◌, IfOk};
 
-use std::alloc::{AllocError, Global};
-use std::marker::Model;
-use tx_tree::{Name, NoMemory, NodeId};
+use std::alloc::Global;
+use tx_text::{Items, Name, NoMemory};
+use tx_tree::NodeId;
 
 /// A pseudo-class.
 #[derive(Clone, Copy, Debug, PartialEq, Eq)]
@@ -51,43 +51,7 @@ pub enum Part {
 }
 
 /// Parts in their order, seen as a list.
-#[derive(Debug, Drop)]
-pub struct Parts {
-    items: Vec<Part>,
-}
-
-impl Model for Parts {
-    ghost use Rattle.std.specs.Prelude.{List};
-    ghost use Rattle.tx_select.specs.declared.value.Part.{Part};
-
-    ghost Value = { List Part };
-
-    ghost view = { λ p. p.items.items };
-}
-
-impl Parts {
-    /// The list of these parts. It takes no memory.
-    pub fn of(items: Vec<Part>) -> Parts
-        ensures { result ≡ items.items }
-    {
-        Parts { items }
-    }
-
-    /// The parts.
-    pub fn as_slice(&self) -> &[Part]
-        ensures { result.now ≡ self.now }
-    {
-        self.items.as_slice()
-    }
-
-    /// A second list that equals this one.
-    pub fn copy(&self) -> Result<Parts, NoMemory>
-        ensures { IfOk result (λ p. p ≡ self.now) }
-    {
-        let items = self.items.clone()?;
-        Ok(Parts { items })
-    }
-}
+pub type Parts = Items<Part>;
 
 /// What one row must be.
 #[derive(Debug, Drop)]
@@ -114,58 +78,17 @@ impl Compound {
 }
 
 /// Compounds in their order, seen as a list.
-#[derive(Debug, Drop)]
-pub struct Compounds {
-    items: Vec<Compound>,
-}
-
-impl Model for Compounds {
-    ghost use Rattle.std.specs.Prelude.{List};
-    ghost use Rattle.tx_select.specs.declared.value.Compound.{Compound};
-
-    ghost Value = { List Compound };
-
-    ghost view = { λ c. c.items.items };
-}
-
-impl Compounds {
-    /// The list of these compounds. It takes no memory.
-    pub fn of(items: Vec<Compound>) -> Compounds
-        ensures { result ≡ items.items }
-    {
-        Compounds { items }
-    }
-
-    /// The compounds, the first one first.
-    pub fn as_slice(&self) -> &[Compound]
-        ensures { result.now ≡ self.now }
-    {
-        self.items.as_slice()
-    }
-
-    /// A second list that equals this one.
-    pub fn copy(&self) -> Result<Compounds, NoMemory>
-        ensures { IfOk result (λ c. c ≡ self.now) }
-    {
-        let items = copies(*self.items.allocator(), self.items.as_slice())?;
-        Ok(Compounds { items })
-    }
-}
+pub type Compounds = Items<Compound>;
 
 /// The same compounds once more.
-fn copies(alloc: Global, compounds: &[Compound]) -> Result<Vec<Compound>, NoMemory>
-    ensures { IfOk result (λ copies. copies.items ≡ compounds.now) }
+fn copy_of(alloc: Global, compounds: &[Compound]) -> Result<Compounds, NoMemory>
+    ensures { IfOk result (λ copy. copy ≡ compounds.now) }
 {
     let mut copies = Vec::new(alloc);
     for compound in compounds {
-        let Ok(copy) = compound.copy() else {
-            return Err(AllocError);
-        };
-        let Ok(()) = copies.push(copy) else {
-            return Err(AllocError);
-        };
+        copies.push(compound.copy()?)?;
     }
-    Ok(copies)
+    Ok(Compounds::of(copies))
 }
 
 /// A selector: at most 16 compounds, with fewer than 2^32 parts in all. It selects the rows that
@@ -180,9 +103,8 @@ impl Selector {
     pub fn copy(&self) -> Result<Selector, NoMemory>
         ensures { IfOk result (λ s. s ≡ self.now) }
     {
-        Ok(Selector {
-            compounds: self.compounds.copy()?,
-        })
+        let compounds = copy_of(self.compounds.allocator(), self.compounds.as_slice())?;
+        Ok(Selector { compounds })
     }
 }
 

@@ -1,7 +1,7 @@
 -- How a selector is read from the left.
 use Rattle.std.specs.Prelude.{ℕ, zero, suc, Bool, true, false, ◌&&◌, ◌||◌, List, [], ◌∷◌, length, drop, Option, Some, None, Result, Ok, Err, if◌then◌else◌}
 use Rattle.tx_read.specs.Reading.{Reader, in_turn, many, whole}
-use Rattle.tx_tree.specs.Name.{is_name}
+use Rattle.tx_text.specs.Name.{is_name}
 use Rattle.tx_lex.specs.Lexemes.{Lexeme, is_space, is_blank, is_name_token, is_hash, is_mark, first_is}
 use Rattle.tx_select.specs.Lexemes.{begins_part, begins_compound, is_child_mark}
 use Rattle.tx_select.specs.Pseudo.{pseudo_of}

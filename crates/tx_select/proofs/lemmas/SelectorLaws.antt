@@ -1,11 +1,12 @@
--- The laws of reading.
-use Rattle.std.proofs.Common.{◌≡◌, false, List, [], Ok}
+-- What holds of the reading of selectors that stand among other tokens.
+use Rattle.std.proofs.Common.{◌≡◌, false, List, Ok}
 use Rattle.tx_lex.specs.Lexemes.{Lexeme}
-use Rattle.tx_select.specs.Reads.{selector_at}
-use Rattle.tx_select.specs.Laws.{StandsBefore, SelectorsAreRead, WholesAreRead}
+use Rattle.tx_select.specs.SelectorReading.{selector_at}
+use Rattle.tx_select.specs.Laws.{StandsBefore, SelectorsAreRead, SelectorsAreLocal}
 use Rattle.tx_select.specs.declared.value.Compound.{Compound}
-use Rattle.tx_select.proofs.FoundWhole.{CompoundsFound, selector-found, whole-found}
-use Rattle.tx_select.proofs.AgainWhole.{selector-again, whole-again}
+use Rattle.tx_select.proofs.FoundWhole.{CompoundsFound, selector-found}
+use Rattle.tx_select.proofs.AgainWhole.{selector-again}
+use Rattle.tx_select.proofs.Local.{selector-plain}
 
 stands-before : (s rest : List Lexeme) (compounds : List Compound) → selector_at s ≡ Ok (compounds, rest) → StandsBefore s compounds rest
 stands-before s rest compounds is =
@@ -15,5 +16,5 @@ stands-before s rest compounds is =
 pub selectors-read : SelectorsAreRead
 selectors-read ts compounds rest = (stands-before ts rest compounds, λ stands ends. selector-again ts rest compounds stands ends)
 
-pub wholes-read : WholesAreRead
-wholes-read ts compounds = (whole-found ts [] compounds, whole-again ts compounds)
+pub selectors-local : SelectorsAreLocal
+selectors-local = (selector-plain.local, selector-plain.leaves)
