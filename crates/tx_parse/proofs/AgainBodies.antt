@@ -6,7 +6,7 @@ use Rattle.tx_lex.specs.Lexemes.{Lexeme, is_blank, is_mark, first_is}
 use Rattle.tx_lex.specs.declared.token.TokenKind.TheVariants.{Name, Mark}
 use Rattle.tx_select.specs.Grammar.{AreBlank}
 use Rattle.tx_parse.specs.Grammar.{Body, nothing, joined, IsDeclaration, IsPiece, IsEnded, IsBody}
-use Rattle.tx_parse.specs.Reads.{Read, give, ends_body, past_end, is_end, declaration_at, with_declarations, item_at, next_in_body, body_from, body_at, inline_at}
+use Rattle.tx_parse.specs.SheetReading.{Read, give, ends_body, past_end, is_end, declaration_at, with_declarations, item_at, next_in_body, body_from, body_at, inline_at}
 use Rattle.tx_parse.specs.Values.{DeclarationValue}
 use Rattle.tx_parse.specs.Variables.{Defined}
 use Rattle.tx_parse.proofs.AgainValues.{past_again, is_kind, declaration_again, ends_of}
@@ -22,9 +22,6 @@ module _ (inline : Bool) (defined : Defined) where
 
   abbrev next_by : ℕ → Body → List Lexeme → Bool → Read Body
   next_by n found here ends = cond ends (Ok (found, past_end inline here)) (in_turn (item_at inline defined found) (body_from n inline defined) here)
-
-  item_of : Body → List Lexeme → Lexeme → Bool → Read Body
-  item_of found ts t mark = cond mark (Ok (found, ts)) (in_turn (declaration_at inline defined) (λ declarations. give (with_declarations declarations found)) (t ∷ ts))
 
   not_close : (t : Lexeme) (ts : List Lexeme) → t.kind ≡ Mark 59 → ends_body inline (t ∷ ts) ≡ false
   not_close t ts is = ap (λ k. not inline && is_mark 125 k) is ∙ never inline

@@ -3,7 +3,7 @@ use Rattle.std.proofs.Common.{◌≡◌, ◌⊎◌, inl, inr, ℕ, zero, suc, �
 use Rattle.std.specs.List.{list_all}
 use Rattle.std.proofs.lemmas.Bool.Decides.{nat_tests}
 use Rattle.std.proofs.lemmas.List.{append-nil}
-use Rattle.tx_tree.specs.Name.{is_name}
+use Rattle.tx_text.specs.Name.{is_name}
 use Rattle.tx_read.specs.Reading.{◌>>=◌, in_turn, Items}
 use Rattle.tx_lex.specs.Lexemes.{Lexeme, is_blank, is_name_token, is_variable, is_mark, first_is}
 use Rattle.tx_lex.specs.declared.token.TokenKind.{TokenKind}
@@ -11,12 +11,13 @@ use Rattle.tx_lex.specs.declared.token.TokenKind.TheVariants.{Space, Comment, Na
 use Rattle.tx_select.specs.Grammar.{AreBlank, IsWhole}
 use Rattle.tx_select.specs.Laws.{StandsBefore}
 use Rattle.tx_select.specs.Lexemes.{begins_part, begins_compound, goes_on}
-use Rattle.tx_select.specs.Reads.{kind_at, parts_at, compound_at, compounds_at, compound_of, link_at, then_compounds, selector_at, Read as SelectorRead, expected as not_expected}
+use Rattle.tx_select.specs.SelectorReading.{kind_at, parts_at, compound_at, compounds_at, compound_of, link_at, then_compounds, selector_at, Read as SelectorRead, expected as not_expected}
 use Rattle.tx_select.specs.declared.value.Compound.{Compound}
 use Rattle.tx_select.specs.declared.value.Selector.{Selector}
-use Rattle.tx_select.proofs.Exact.{selectors-read}
+use Rattle.tx_select.proofs.lemmas.SelectorLaws.{selectors-read}
 use Rattle.tx_parse.specs.Grammar.{IsValues, AreSelectors, IsRule, IsVariable, Found, nothing_found, with_variable, with_rule, IsPart, IsSheet}
-use Rattle.tx_parse.specs.Reads.{Reads, give, met, expected, past_blanks, mark_at, values_at, body_at, as_selector, spaced_selector_at, goes_on_at, then_selectors, selectors_from, selectors_at, rule_of, rule_at, definition_at, variable_in_sheet, rule_in_sheet, part_at, next_in_sheet, sheet_from, sheet_at}
+use Rattle.tx_lex.specs.Blanks.{past_blanks}
+use Rattle.tx_parse.specs.SheetReading.{Reads, give, met, expected, mark_at, values_at, body_at, as_selector, spaced_selector_at, goes_on_at, then_selectors, selectors_from, selectors_at, rule_of, rule_at, definition_at, variable_in_sheet, rule_in_sheet, part_at, next_in_sheet, sheet_from, sheet_at}
 use Rattle.tx_parse.specs.Values.{RuleValue}
 use Rattle.tx_parse.specs.Variables.{Defined, is_value}
 use Rattle.tx_parse.specs.declared.fault.SheetKind.TheVariants.{TooManyRules}

@@ -13,11 +13,12 @@ use Rattle.tx_value.specs.Declarations.{Pair, declaration, valued}
 use Rattle.tx_value.specs.Names.{is_known, meaning_of}
 use Rattle.tx_value.specs.declared.property.Named.{Named}
 use Rattle.tx_parse.specs.Grammar.{IsValues, IsImportance, IsDeclaration}
-use Rattle.tx_parse.specs.Reads.{met, expected, past_blanks, token_at, mark_at, added, values_from, at_least_one, values_at, place_of, is_important, important_word_at, importance_at, Spelled, spelled, spelled_at, is_end, told, ended, declaration_at}
+use Rattle.tx_lex.specs.Blanks.{past_blanks, without_blanks}
+use Rattle.tx_parse.specs.SheetReading.{met, expected, token_at, mark_at, added, values_from, at_least_one, values_at, place_of, is_important, important_word_at, importance_at, Spelled, spelled, spelled_at, is_end, told, ended, declaration_at}
 use Rattle.tx_parse.specs.Values.{DeclarationValue}
-use Rattle.tx_parse.specs.Variables.{Defined, is_value, stands_for, both, stand_for, written}
+use Rattle.tx_parse.specs.Variables.{Defined, is_value, stands_for, both, stand_for}
 use Rattle.tx_parse.specs.declared.fault.SheetKind.TheVariants.{ValueTooLong, UnknownProperty}
-use Rattle.tx_parse.proofs.Cases.{and-both}
+use Rattle.std.proofs.lemmas.Bool.{and_parts}
 use Rattle.tx_parse.proofs.Local.{behind_name}
 use Rattle.tx_parse.proofs.Turns.{turn_ok, spelled_ok}
 use Rattle.tx_parse.proofs.ValueSteps.{values_past, values_value, values_other, values_none}
@@ -28,7 +29,7 @@ pub past_again : (blank rest : List Lexeme) → AreBlank blank → first_is is_b
 past_again [] [] all none = refl
 past_again [] (t ∷ ts) all none = ap (λ b. cond b (past_blanks ts) (t ∷ ts)) none
 past_again (t ∷ blank) rest all none =
-    let parts : (is_blank t.kind ≡ true) × AreBlank blank = and-both (is_blank t.kind) (list_all (λ t. is_blank t.kind) blank) all in
+    let parts : (is_blank t.kind ≡ true) × AreBlank blank = and_parts (is_blank t.kind) (list_all (λ t. is_blank t.kind) blank) all in
     ap (λ b. cond b (past_blanks (blank ++ rest)) (t ∷ (blank ++ rest))) parts.0 ∙ past_again blank rest parts.1 none
 
 -- ---- single tokens
@@ -48,7 +49,7 @@ mark_again byte gap rest t blank is =
 -- ---- values
 
 abbrev ValuesAgain : Defined → List Lexeme → List Lexeme → Type 0
-ValuesAgain defined piece rest = (found stand : List Lexeme) → list_all (λ t. is_value t.kind) (written piece) ≡ true → stand_for defined (written piece) ≡ Some stand → length found + length stand ≤ 64
+ValuesAgain defined piece rest = (found stand : List Lexeme) → list_all (λ t. is_value t.kind) (without_blanks piece) ≡ true → stand_for defined (without_blanks piece) ≡ Some stand → length found + length stand ≤ 64
     → values_from defined found (piece ++ rest) ≡ Ok (found ++ stand, rest)
 
 ends_values : (defined : Defined) (found rest : List Lexeme) → first_is is_blank rest ≡ false → first_is is_value rest ≡ false → values_from defined found rest ≡ Ok (found, rest)
@@ -79,16 +80,16 @@ values_from_again defined [] rest blank value found stand values replaced few =
 values_from_again defined (t ∷ piece) rest blank value found stand values replaced few = of (is_blank t.kind) refl (stands_for defined t) refl values replaced (values_from_again defined piece rest blank value)
   where
     of : (b : Bool) → is_blank t.kind ≡ b → (stands : Option (List Lexeme)) → stands_for defined t ≡ stands
-        → list_all (λ t. is_value t.kind) (cond (not b) (t ∷ written piece) (written piece)) ≡ true → stand_for defined (cond (not b) (t ∷ written piece) (written piece)) ≡ Some stand
+        → list_all (λ t. is_value t.kind) (cond (not b) (t ∷ without_blanks piece) (without_blanks piece)) ≡ true → stand_for defined (cond (not b) (t ∷ without_blanks piece) (without_blanks piece)) ≡ Some stand
         → ValuesAgain defined piece rest → values_from defined found ((t ∷ piece) ++ rest) ≡ Ok (found ++ stand, rest)
     of true is stands standing values replaced again =
         ap (λ b. cond b (values_from defined found (piece ++ rest)) (cond (is_value t.kind) (added found t (piece ++ rest) (stands_for defined t) >>= (λ more. values_from defined more.0 (piece ++ rest))) (Ok (found, t ∷ (piece ++ rest))))) is
         ∙ again found stand values replaced few
-    of false is None standing values replaced again = absurd (let clash : None ≡ Some stand = ap (λ s. both s (stand_for defined (written piece))) (sym standing) ∙ replaced in cc)
+    of false is None standing values replaced again = absurd (let clash : None ≡ Some stand = ap (λ s. both s (stand_for defined (without_blanks piece))) (sym standing) ∙ replaced in cc)
     of false is (Some one) standing values replaced again =
-        let split : (is_value t.kind ≡ true) × (list_all (λ t. is_value t.kind) (written piece) ≡ true) = and-both (is_value t.kind) (list_all (λ t. is_value t.kind) (written piece)) values in
-        let parts : (more : List Lexeme) × (stand_for defined (written piece) ≡ Some more) × (stand ≡ one ++ more) =
-        both_some one (stand_for defined (written piece)) stand (ap (λ s. both s (stand_for defined (written piece))) (sym standing) ∙ replaced) in
+        let split : (is_value t.kind ≡ true) × (list_all (λ t. is_value t.kind) (without_blanks piece) ≡ true) = and_parts (is_value t.kind) (list_all (λ t. is_value t.kind) (without_blanks piece)) values in
+        let parts : (more : List Lexeme) × (stand_for defined (without_blanks piece) ≡ Some more) × (stand ≡ one ++ more) =
+        both_some one (stand_for defined (without_blanks piece)) stand (ap (λ s. both s (stand_for defined (without_blanks piece))) (sym standing) ∙ replaced) in
         values_value defined found t (piece ++ rest) is split.0
         ∙ ap (λ s. added found t (piece ++ rest) s >>= (λ a. values_from defined a.0 (piece ++ rest))) standing
         ∙ few_added defined found one parts.0 (piece ++ rest) rest t (subst (λ s. length found + length s ≤ 64) parts.2 few) (λ f small. again f parts.0 split.1 parts.1 small)

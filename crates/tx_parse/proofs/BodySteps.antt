@@ -1,17 +1,14 @@
 -- The steps of reading declarations one behind another.
-use Rattle.std.proofs.Common.{◌≡◌, ℕ, zero, suc, ◌-◌, ◌≤◌, ◌<◌, Bool, true, false, cond, List, length, drop, Ok, Err, refl, ap, sym, ◌∙◌, arith}
+use Rattle.std.proofs.Common.{◌≡◌, ℕ, zero, suc, ◌-◌, ◌≤◌, ◌<◌, Bool, false, cond, List, length, drop, Ok, refl, ap, sym, ◌∙◌, arith}
 use Rattle.std.proofs.lemmas.List.{length-map, length-drop}
 use Rattle.tx_lex.specs.Lexemes.{Lexeme, lexeme, lexemes_from}
 use Rattle.tx_lex.specs.declared.token.Token.{Token}
 use Rattle.tx_read.specs.Reading.{in_turn}
-use Rattle.tx_parse.specs.Answers.{GivesAs}
 use Rattle.tx_parse.specs.Grammar.{Body, nothing}
-use Rattle.tx_parse.specs.Reads.{past_blanks, ends_body, past_end, item_at, next_in_body, body_from, body_at}
-use Rattle.tx_parse.specs.Seen.{body_of}
+use Rattle.tx_lex.specs.Blanks.{past_blanks}
+use Rattle.tx_parse.specs.SheetReading.{ends_body, past_end, item_at, next_in_body, body_from, body_at}
 use Rattle.tx_parse.specs.Variables.{Defined}
-use Rattle.tx_parse.specs.declared.fault.Stop.{Stop}
-use Rattle.tx_parse.specs.declared.fault.Stop.TheVariants.{At, Memory}
-use Rattle.tx_parse.proofs.Turns.{turn_ok, turn_err}
+use Rattle.tx_parse.proofs.Turns.{turn_ok}
 
 -- how many tokens there are from a number on
 pub length_from : (text : List ℕ) (tokens : List Token) (at : ℕ) → length (lexemes_from text tokens at) ≡ length tokens - at
@@ -62,17 +59,3 @@ body_next inline defined found more here start rest next left less so_far ends i
           ∙ sym (turn_ok (item_at inline defined found) (body_from so_far.most inline defined) here rest more item)
           ∙ sym (goes_on inline defined found here so_far.most ends) ∙ so_far.same;
     }
-
-pub body_ends : (inline : Bool) (defined : Defined) (found : Body) (here start rest : List Lexeme) (left : ℕ) → BodySoFar inline defined found here start left
-    → ends_body inline here ≡ true → rest ≡ past_end inline here → body_at inline defined start ≡ Ok (found, rest)
-body_ends inline defined found here start rest left so_far ends past =
-    sym so_far.same
-    ∙ ap (λ b. cond b (Ok (found, past_end inline here)) (in_turn (item_at inline defined found) (body_from so_far.most inline defined) here)) ends
-    ∙ ap (λ r. Ok (found, r)) (sym past)
-
-pub body_err : (text : List ℕ) (tokens : List Token) (inline : Bool) (defined : Defined) (found : Body) (here start : List Lexeme) (left : ℕ) (stop : Stop) → BodySoFar inline defined found here start left
-    → ends_body inline here ≡ false → GivesAs body_of text tokens (Err stop) (item_at inline defined found here) → GivesAs body_of text tokens (Err stop) (body_at inline defined start)
-body_err text tokens inline defined found here start left (At wrong at) so_far ends item =
-    sym so_far.same ∙ goes_on inline defined found here so_far.most ends
-    ∙ turn_err (item_at inline defined found) (body_from so_far.most inline defined) here (wrong, lexemes_from text tokens at) item
-body_err text tokens inline defined found here start left Memory so_far ends item = tt

@@ -2,7 +2,7 @@
 use Rattle.std.proofs.Common.{◌≡◌, ℕ, ◌≤◌, List, [], ◌∷◌, ◌++◌, refl, ap, sym, ◌∙◌, arith, append_assoc}
 use Rattle.std.proofs.lemmas.List.{append-nil}
 use Rattle.tx_parse.specs.Grammar.{counted, Body, nothing, one, joined}
-use Rattle.tx_parse.specs.Reads.{with_declarations}
+use Rattle.tx_parse.specs.SheetReading.{with_declarations}
 use Rattle.tx_parse.specs.Values.{DeclarationValue}
 
 pub counted_none : (a : ℕ) → a ≤ 4294967295 → counted a 0 ≡ a

@@ -1,11 +1,10 @@
 -- Variables, and what they stand for, over the text that they are read of.
-use Rattle.std.proofs.Common.{◌≡◌, ℕ, ◌+◌, Bool, true, false, cond, List, [], ◌∷◌, take, drop, map, Some, None, option_map, bytes_eq, refl, ap, ◌∙◌}
+use Rattle.std.proofs.Common.{◌≡◌, ℕ, ◌+◌, Bool, true, false, cond, List, [], ◌∷◌, take, drop, map, Some, option_map, bytes_eq, refl, ap}
 use Rattle.indexmap.specs.IndexMap.{insert_entry}
-use Rattle.tx_lex.specs.Lexemes.{Lexeme, lexeme, lexemes, is_variable}
+use Rattle.tx_lex.specs.Lexemes.{lexeme, lexemes}
 use Rattle.tx_lex.specs.declared.token.Token.{Token}
-use Rattle.tx_tree.specs.Name.{is_name}
 use Rattle.tx_parse.specs.Seen.{defined_in, definition_in}
-use Rattle.tx_parse.specs.Variables.{latest, stands_for, or_of_theme, variable_stands_for}
+use Rattle.tx_parse.specs.Variables.{latest}
 
 abbrev pub Entries : Type 0
 Entries = List (List ℕ × List Token)
@@ -35,22 +34,3 @@ insert_in text name tokens (entry ∷ entries) = of (bytes_eq name entry.0) (ins
 -- a token stands alone
 pub alone_in : (text : List ℕ) (tokens : List Token) (at : ℕ) (token : Token) → drop at tokens ≡ token ∷ drop (at + 1) tokens → lexemes text (take 1 (drop at tokens)) ≡ lexeme text token ∷ []
 alone_in text tokens at token is = ap (λ ts. lexemes text (take 1 ts)) is
-
--- what a token stands for, by cases
-
-pub other_stands : (defined : List (List ℕ × List Lexeme)) (t : Lexeme) → is_variable t.kind ≡ false → stands_for defined t ≡ Some (t ∷ [])
-unfolding stands_for
-other_stands defined t other = ap (λ b. cond b (variable_stands_for defined t) (Some (t ∷ []))) other
-
-pub variable_stands : (defined : List (List ℕ × List Lexeme)) (t : Lexeme) → is_variable t.kind ≡ true → is_name (drop 1 t.bytes) ≡ true
-    → stands_for defined t ≡ or_of_theme t (latest (drop 1 t.bytes) defined)
-unfolding stands_for
-variable_stands defined t variable named =
-    ap (λ b. cond b (variable_stands_for defined t) (Some (t ∷ []))) variable
-    ∙ ap (λ b. cond b (or_of_theme t (latest (drop 1 t.bytes) defined)) None) named
-
-pub unnamed_stands : (defined : List (List ℕ × List Lexeme)) (t : Lexeme) → is_variable t.kind ≡ true → is_name (drop 1 t.bytes) ≡ false → stands_for defined t ≡ None
-unfolding stands_for
-unnamed_stands defined t variable named =
-    ap (λ b. cond b (variable_stands_for defined t) (Some (t ∷ []))) variable
-    ∙ ap (λ b. cond b (or_of_theme t (latest (drop 1 t.bytes) defined)) None) named

@@ -1,10 +1,11 @@
 -- A fault is the first one.
 use Rattle.std.proofs.Common.{◌≡◌, List, [], ◌∷◌, ◌++◌, Ok, Err, ap, sym, ◌∙◌}
-use Rattle.tx_read.proofs.LocalReaders.{Plain, granted}
+use Rattle.tx_read.proofs.lemmas.Cases.{granted}
+use Rattle.tx_read.proofs.lemmas.LocalReaders.{Plain}
 use Rattle.tx_lex.specs.Lexemes.{Lexeme}
 use Rattle.tx_parse.specs.Grammar.{Body, Found, IsSheet, IsBody}
 use Rattle.tx_parse.specs.Laws.{NoneBeginsSo, FaultsAreFirst}
-use Rattle.tx_parse.specs.Reads.{Reads, sheet_at, inline_at}
+use Rattle.tx_parse.specs.SheetReading.{Reads, sheet_at, inline_at}
 use Rattle.tx_parse.specs.declared.fault.Wrong.{Wrong}
 use Rattle.tx_parse.proofs.AgainBodies.{inline_again}
 use Rattle.tx_parse.proofs.AgainSheets.{sheet_again}

@@ -4,14 +4,17 @@ use Rattle.std.proofs.lemmas.List.{append-nil}
 use Rattle.tx_read.specs.Reading.{in_turn}
 use Rattle.tx_lex.specs.Lexemes.{Lexeme, is_blank, is_mark}
 use Rattle.tx_lex.specs.declared.token.TokenKind.TheVariants.{Mark}
-use Rattle.tx_lex.proofs.TokenKinds.{mark-kind}
+use Rattle.tx_lex.proofs.lemmas.TokenKinds.{mark-kind}
 use Rattle.tx_select.specs.Grammar.{AreBlank}
 use Rattle.tx_parse.specs.Grammar.{Body, nothing, one, IsDeclaration, IsBody}
-use Rattle.tx_parse.specs.Reads.{give, past_blanks, ends_body, past_end, is_end, declaration_at, with_declarations, item_at, next_in_body, body_from, body_at}
+use Rattle.tx_lex.specs.Blanks.{past_blanks}
+use Rattle.tx_parse.specs.SheetReading.{give, ends_body, past_end, is_end, declaration_at, with_declarations, item_at, next_in_body, body_from, body_at}
 use Rattle.tx_parse.specs.Values.{DeclarationValue}
 use Rattle.tx_parse.specs.Variables.{Defined}
 use Rattle.tx_parse.specs.declared.fault.SheetKind.TheVariants.{Expected}
-use Rattle.tx_parse.proofs.Cases.{Gave, given, refused, both as parts_of, and-both}
+use Rattle.tx_parse.specs.declared.fault.Wrong.{Wrong}
+use Rattle.tx_read.proofs.lemmas.Cases.{Gave, given, refused, both as parts_of}
+use Rattle.std.proofs.lemmas.Bool.{and_parts, or_cases}
 use Rattle.tx_parse.proofs.Counts.{with_body, with_nothing, nothing_with, with_more, one_alone, joined_small, counted_small}
 use Rattle.tx_parse.proofs.FoundValues.{Takes, past_found, DeclarationFound, declaration_found}
 use Rattle.tx_parse.proofs.Local.{wrong_of}
@@ -83,25 +86,21 @@ ends_here false (t ∷ ts) rest is past = (t, ap (λ xs. t ∷ xs) past, mark-ki
 marks_stay : (byte : ℕ) (t : Lexeme) (ts : List Lexeme) → t.kind ≡ Mark byte → past_blanks (t ∷ ts) ≡ t ∷ ts
 marks_stay byte t ts is = ap (λ k. cond (is_blank k) (past_blanks ts) (t ∷ ts)) is
 
-either-true : (a b : Bool) → (a || b) ≡ true → (a ≡ true) ⊎ (b ≡ true)
-either-true true b is = inl refl
-either-true false b is = inr is
-
 -- where a declaration ends, no blank stands
 pub end_stays : (inline : Bool) (ts : List Lexeme) → is_end inline ts ≡ true → past_blanks ts ≡ ts
 end_stays inline [] is = refl
-end_stays inline (t ∷ ts) is = of (either-true (is_mark 59 t.kind) (not inline && is_mark 125 t.kind) is)
+end_stays inline (t ∷ ts) is = of (or_cases (is_mark 59 t.kind) (not inline && is_mark 125 t.kind) is)
   where
     of : (is_mark 59 t.kind ≡ true) ⊎ ((not inline && is_mark 125 t.kind) ≡ true) → past_blanks (t ∷ ts) ≡ t ∷ ts
     of (inl mark) = marks_stay 59 t ts (mark-kind 59 t.kind mark)
-    of (inr mark) = marks_stay 125 t ts (mark-kind 125 t.kind (and-both (not inline) (is_mark 125 t.kind) mark).1)
+    of (inr mark) = marks_stay 125 t ts (mark-kind 125 t.kind (and_parts (not inline) (is_mark 125 t.kind) mark).1)
 
 abbrev BodyFounds : Bool → Defined → ℕ → Type 0
 BodyFounds inline defined n = (found body : Body) (ts rest : List Lexeme) → found.written ≤ 4294967295 → body_from n inline defined found ts ≡ Ok (body, rest) → BodyFound inline defined found ts body rest
 
 module _ (inline : Bool) (defined : Defined) where
   -- a body that ends behind a front of blanks
-  at_end : (found body : Body) (ts here rest : List Lexeme) → found.written ≤ 4294967295 → Takes AreBlank ts here → ends_body inline here ≡ true → Gave (Ok (found, past_end inline here)) body rest → BodyFound inline defined found ts body rest
+  at_end : (found body : Body) (ts here rest : List Lexeme) → found.written ≤ 4294967295 → Takes AreBlank ts here → ends_body inline here ≡ true → Gave {F = Wrong} (Ok (found, past_end inline here)) body rest → BodyFound inline defined found ts body rest
   at_end found body ts here rest small blank ends is =
       let same : (found ≡ body) × (past_end inline here ≡ rest) = given found body (past_end inline here) rest is in
       record {
@@ -124,7 +123,7 @@ module _ (inline : Bool) (defined : Defined) where
 
   -- a declaration, and then the end
   last_declared : (found body : Body) (ts here mid rest : List Lexeme) (declarations : List DeclarationValue) → Takes AreBlank ts here → DeclarationFound inline defined here declarations mid
-      → ends_body inline mid ≡ true → Gave (Ok (with_declarations declarations found, past_end inline mid)) body rest → BodyFound inline defined found ts body rest
+      → ends_body inline mid ≡ true → Gave {F = Wrong} (Ok (with_declarations declarations found, past_end inline mid)) body rest → BodyFound inline defined found ts body rest
   last_declared found body ts here mid rest declarations blank declared ends is =
       let same : (with_declarations declarations found ≡ body) × (past_end inline mid ≡ rest) = given (with_declarations declarations found) body (past_end inline mid) rest is in
       record {
@@ -154,7 +153,7 @@ module _ (inline : Bool) (defined : Defined) where
   mark_item found t ts mark = ap (λ b. cond b (Ok (found, ts)) (in_turn (declaration_at inline defined) (λ declarations. give (with_declarations declarations found)) (t ∷ ts))) mark
 
   first_mark : (t : Lexeme) (ts : List Lexeme) → (is_mark 59 t.kind || ends_body inline (t ∷ ts)) ≡ true → ends_body inline (t ∷ ts) ≡ false → is_mark 59 t.kind ≡ true
-  first_mark t ts ends none = of (either-true (is_mark 59 t.kind) (ends_body inline (t ∷ ts)) ends)
+  first_mark t ts ends none = of (or_cases (is_mark 59 t.kind) (ends_body inline (t ∷ ts)) ends)
     where
       of : (is_mark 59 t.kind ≡ true) ⊎ (ends_body inline (t ∷ ts) ≡ true) → is_mark 59 t.kind ≡ true
       of (inl mark) = mark

@@ -1,25 +1,27 @@
 -- The rules, variables and sheets that are read are in the grammar.
 use Rattle.std.proofs.Common.{◌≡◌, ◌⊎◌, inl, inr, ℕ, zero, suc, ◌+◌, ◌≤◌, ◌<◌, Bool, true, false, cond, List, [], ◌∷◌, ◌++◌, length, drop, nat_lt, Result, Ok, Err, refl, ap, sym, ◌∙◌, subst, arith, append_assoc, length-append}
 use Rattle.std.proofs.lemmas.List.{append-nil}
-use Rattle.tx_tree.specs.Name.{is_name}
+use Rattle.tx_text.specs.Name.{is_name}
 use Rattle.tx_read.specs.Reading.{in_turn, Items}
 use Rattle.tx_lex.specs.Lexemes.{Lexeme, is_variable, is_mark}
 use Rattle.tx_lex.specs.declared.token.TokenKind.TheVariants.{Mark}
-use Rattle.tx_lex.proofs.TokenKinds.{mark-kind, variable-kind}
+use Rattle.tx_lex.proofs.lemmas.TokenKinds.{mark-kind, variable-kind}
 use Rattle.tx_select.specs.Grammar.{AreBlank, IsWhole}
 use Rattle.tx_select.specs.Laws.{StandsBefore}
 use Rattle.tx_select.specs.Lexemes.{begins_compound}
-use Rattle.tx_select.specs.Reads.{selector_at}
+use Rattle.tx_select.specs.SelectorReading.{selector_at}
 use Rattle.tx_select.specs.declared.fault.SelectKind.{SelectKind}
 use Rattle.tx_select.specs.declared.value.Compound.{Compound}
 use Rattle.tx_select.specs.declared.value.Selector.{Selector}
-use Rattle.tx_select.proofs.Exact.{selectors-read}
+use Rattle.tx_select.proofs.lemmas.SelectorLaws.{selectors-read}
 use Rattle.tx_parse.specs.Grammar.{Body, nothing, IsValues, IsBody, AreSelectors, IsRule, IsVariable, Found, nothing_found, with_variable, with_rule, IsPart, IsSheet}
-use Rattle.tx_parse.specs.Reads.{Read, give, met, expected, past_blanks, mark_at, values_at, body_at, kind_of, as_selector, spaced_selector_at, goes_on_at, then_selectors, selectors_from, selectors_at, rule_of, rule_at, definition_at, variable_in_sheet, rule_in_sheet, part_at, next_in_sheet, sheet_from, sheet_at, inline_at}
+use Rattle.tx_lex.specs.Blanks.{past_blanks}
+use Rattle.tx_parse.specs.SheetReading.{Read, give, met, expected, mark_at, values_at, body_at, kind_of, as_selector, spaced_selector_at, goes_on_at, then_selectors, selectors_from, selectors_at, rule_of, rule_at, definition_at, variable_in_sheet, rule_in_sheet, part_at, next_in_sheet, sheet_from, sheet_at, inline_at}
 use Rattle.tx_parse.specs.Values.{RuleValue}
 use Rattle.tx_parse.specs.Variables.{Defined}
 use Rattle.tx_parse.specs.declared.fault.SheetKind.TheVariants.{Expected, TooManyRules}
-use Rattle.tx_parse.proofs.Cases.{Gave, given, refused, both as parts_of}
+use Rattle.tx_parse.specs.declared.fault.Wrong.{Wrong}
+use Rattle.tx_read.proofs.lemmas.Cases.{Gave, given, refused, both as parts_of}
 use Rattle.tx_parse.proofs.FoundBodies.{BodyFound, body_found, body_itself}
 use Rattle.tx_parse.proofs.FoundValues.{Takes, past_found, MarkFound, mark_found, values_found, blank_behind}
 use Rattle.tx_parse.proofs.Local.{wrong_of}
@@ -145,7 +147,7 @@ rule_found defined ts rest rule is =
       },
     )
 
-    of : (selectors : List Selector) (mid : List Lexeme) (head : SelectorsFound 64 [] ts selectors mid) (body : Body) (behind : List Lexeme) → (block : BodyFound false defined nothing mid body behind) → Gave (Ok (rule_of selectors body, behind)) rule rest
+    of : (selectors : List Selector) (mid : List Lexeme) (head : SelectorsFound 64 [] ts selectors mid) (body : Body) (behind : List Lexeme) → (block : BodyFound false defined nothing mid body behind) → Gave {F = Wrong} (Ok (rule_of selectors body, behind)) rule rest
         → Takes (λ a. IsRule defined a rule.0 rule.1) ts rest
     of selectors mid head body behind block is =
         let same : (rule_of selectors body ≡ rule) × (behind ≡ rest) = given (rule_of selectors body) rule behind rest is in

@@ -3,22 +3,24 @@ use Rattle.std.proofs.Common.{◌≡◌, ◌≢◌, ℕ, ◌+◌, ◌≤◌, Boo
 use Rattle.std.specs.List.{list_all}
 use Rattle.std.proofs.lemmas.List.{append-nil}
 use Rattle.std.proofs.lemmas.List.Elements.{filter-append}
-use Rattle.std.proofs.lemmas.List.Folds.{list_all-append}
 use Rattle.std.proofs.lemmas.Slice.Eq.{bytes_eq-Decides}
 use Rattle.tx_read.specs.Reading.{◌>>=◌}
 use Rattle.tx_lex.specs.Lexemes.{Lexeme, is_blank, is_name_token, is_mark}
 use Rattle.tx_lex.specs.declared.token.TokenKind.TheVariants.{Mark}
-use Rattle.tx_lex.proofs.TokenKinds.{mark-kind, name-kind}
+use Rattle.tx_lex.proofs.lemmas.TokenKinds.{mark-kind, name-kind}
 use Rattle.tx_select.specs.Grammar.{AreBlank}
 use Rattle.tx_value.specs.Declarations.{Pair, declaration}
 use Rattle.tx_value.specs.Names.{is_known}
 use Rattle.tx_value.specs.declared.fault.ValueFault.{ValueFault}
 use Rattle.tx_parse.specs.Grammar.{IsValues, IsImportance, IsDeclaration}
-use Rattle.tx_parse.specs.Reads.{Read, met, expected, past_blanks, token_at, mark_at, added, values_from, at_least_one, values_at, place_of, first_value_at, is_important, important_word_at, importance_at, Spelled, spelled, spelled_at, is_end, told, ended, declaration_at}
+use Rattle.tx_lex.specs.Blanks.{past_blanks, without_blanks}
+use Rattle.tx_parse.specs.SheetReading.{Read, met, expected, token_at, mark_at, added, values_from, at_least_one, values_at, place_of, first_value_at, is_important, important_word_at, importance_at, Spelled, spelled, spelled_at, is_end, told, ended, declaration_at}
 use Rattle.tx_parse.specs.Values.{DeclarationValue, important_pairs}
-use Rattle.tx_parse.specs.Variables.{Defined, is_value, stands_for, both, stand_for, written}
+use Rattle.tx_parse.specs.Variables.{Defined, is_value, stands_for, both, stand_for}
 use Rattle.tx_parse.specs.declared.fault.SheetKind.TheVariants.{Expected, UndefinedVariable, ValueTooLong, UnknownProperty, BadValue}
-use Rattle.tx_parse.proofs.Cases.{Gave, given, refused, both as parts_of, and-both}
+use Rattle.tx_parse.specs.declared.fault.Wrong.{Wrong}
+use Rattle.tx_read.proofs.lemmas.Cases.{Gave, given, refused, both as parts_of}
+use Rattle.std.proofs.lemmas.Bool.{and_parts, and_from}
 use Rattle.tx_parse.proofs.Local.{wrong_of, behind_name}
 
 -- tokens of which the first ones are so
@@ -27,27 +29,20 @@ Takes Is ts rest = (a : List Lexeme) × (ts ≡ a ++ rest) × Is a
 
 -- ---- spaces and comments
 
-and-true : (a b : Bool) → a ≡ true → b ≡ true → (a && b) ≡ true
-and-true true b is also = also
-and-true false b is also = is
-
-pub blank_both : (a b : List Lexeme) → AreBlank a → AreBlank b → AreBlank (a ++ b)
-blank_both a b first second = list_all-append (λ t. is_blank t.kind) a b ∙ and-true (list_all (λ t. is_blank t.kind) a) (list_all (λ t. is_blank t.kind) b) first second
-
 pub past_found : (ts : List Lexeme) → Takes AreBlank ts (past_blanks ts)
 past_found [] = ([], refl, refl)
 past_found (t ∷ ts) = of (is_blank t.kind) refl (past_found ts)
   where
     of : (blank : Bool) → is_blank t.kind ≡ blank → Takes AreBlank ts (past_blanks ts) → Takes AreBlank (t ∷ ts) (cond blank (past_blanks ts) (t ∷ ts))
-    of true is more = (t ∷ more.0, ap (λ xs. t ∷ xs) more.1, and-true (is_blank t.kind) (list_all (λ t. is_blank t.kind) more.0) is more.2)
+    of true is more = (t ∷ more.0, ap (λ xs. t ∷ xs) more.1, and_from (is_blank t.kind) (list_all (λ t. is_blank t.kind) more.0) is more.2)
     of false is more = ([], refl, refl)
 
 -- what is written among spaces and comments
-pub written_blank : (blank ts : List Lexeme) → AreBlank blank → written (blank ++ ts) ≡ written ts
+pub written_blank : (blank ts : List Lexeme) → AreBlank blank → without_blanks (blank ++ ts) ≡ without_blanks ts
 written_blank [] ts all = refl
 written_blank (t ∷ blank) ts all = of (is_blank t.kind) all (written_blank blank ts)
   where
-    of : (b : Bool) → (b && list_all (λ t. is_blank t.kind) blank) ≡ true → (AreBlank blank → written (blank ++ ts) ≡ written ts) → cond (not b) (t ∷ written (blank ++ ts)) (written (blank ++ ts)) ≡ written ts
+    of : (b : Bool) → (b && list_all (λ t. is_blank t.kind) blank) ≡ true → (AreBlank blank → without_blanks (blank ++ ts) ≡ without_blanks ts) → cond (not b) (t ∷ without_blanks (blank ++ ts)) (without_blanks (blank ++ ts)) ≡ without_blanks ts
     of true all more = more all
     of false all more = absurd (let clash : false ≡ true = all in cc)
 
@@ -81,9 +76,9 @@ mark_found byte ts rest t is =
 pub record ValuesFound (defined : Defined) (found ts all rest : List Lexeme) : Type 0 where
   pub piece : List Lexeme
   pub parts : ts ≡ piece ++ rest
-  pub values : list_all (λ t. is_value t.kind) (written piece) ≡ true
+  pub values : list_all (λ t. is_value t.kind) (without_blanks piece) ≡ true
   pub stand : List Lexeme
-  pub replaced : stand_for defined (written piece) ≡ Some stand
+  pub replaced : stand_for defined (without_blanks piece) ≡ Some stand
   pub together : all ≡ found ++ stand
   pub few : length all ≤ 64
 
@@ -93,14 +88,14 @@ values_next defined t ts found stand blank value = cond blank (values_from defin
 abbrev FoundBehind : Defined → List Lexeme → List Lexeme → List Lexeme → Type 0
 FoundBehind defined ts all rest = (found : List Lexeme) → length found ≤ 64 → values_from defined found ts ≡ Ok (all, rest) → ValuesFound defined found ts all rest
 
-nothing_more : (defined : Defined) (found ts all rest : List Lexeme) → length found ≤ 64 → Gave (Ok (found, ts)) all rest → ValuesFound defined found ts all rest
+nothing_more : (defined : Defined) (found ts all rest : List Lexeme) → length found ≤ 64 → Gave {F = Wrong} (Ok (found, ts)) all rest → ValuesFound defined found ts all rest
 nothing_more defined found ts all rest few is =
     let same : (found ≡ all) × (ts ≡ rest) = given found all ts rest is in
     record { piece = []; parts = same.1; values = refl; stand = []; replaced = refl; together = sym same.0 ∙ sym (append-nil found); few = subst (λ f. length f ≤ 64) same.0 few }
 
 behind_blank : (defined : Defined) (found ts all rest : List Lexeme) (t : Lexeme) → is_blank t.kind ≡ true → ValuesFound defined found ts all rest → ValuesFound defined found (t ∷ ts) all rest
 behind_blank defined found ts all rest t blank more =
-    let same : written (t ∷ more.piece) ≡ written more.piece = ap (λ b. cond (not b) (t ∷ written more.piece) (written more.piece)) blank in
+    let same : without_blanks (t ∷ more.piece) ≡ without_blanks more.piece = ap (λ b. cond (not b) (t ∷ without_blanks more.piece) (without_blanks more.piece)) blank in
     record {
       piece = t ∷ more.piece;
       parts = ap (λ xs. t ∷ xs) more.parts;
@@ -114,13 +109,13 @@ behind_blank defined found ts all rest t blank more =
 behind_value : (defined : Defined) (found ts all rest stand : List Lexeme) (t : Lexeme) → is_blank t.kind ≡ false → is_value t.kind ≡ true → stands_for defined t ≡ Some stand
     → ValuesFound defined (found ++ stand) ts all rest → ValuesFound defined found (t ∷ ts) all rest
 behind_value defined found ts all rest stand t blank value stands more =
-    let same : written (t ∷ more.piece) ≡ t ∷ written more.piece = ap (λ b. cond (not b) (t ∷ written more.piece) (written more.piece)) blank in
+    let same : without_blanks (t ∷ more.piece) ≡ t ∷ without_blanks more.piece = ap (λ b. cond (not b) (t ∷ without_blanks more.piece) (without_blanks more.piece)) blank in
     record {
       piece = t ∷ more.piece;
       parts = ap (λ xs. t ∷ xs) more.parts;
-      values = ap (list_all (λ t. is_value t.kind)) same ∙ and-true (is_value t.kind) (list_all (λ t. is_value t.kind) (written more.piece)) value more.values;
+      values = ap (list_all (λ t. is_value t.kind)) same ∙ and_from (is_value t.kind) (list_all (λ t. is_value t.kind) (without_blanks more.piece)) value more.values;
       stand = stand ++ more.stand;
-      replaced = ap (stand_for defined) same ∙ ap (λ s. both s (stand_for defined (written more.piece))) stands ∙ ap (both (Some stand)) more.replaced;
+      replaced = ap (stand_for defined) same ∙ ap (λ s. both s (stand_for defined (without_blanks more.piece))) stands ∙ ap (both (Some stand)) more.replaced;
       together = more.together ∙ append_assoc found stand more.stand;
       few = more.few;
     }
@@ -168,12 +163,12 @@ values_blank defined blank piece stand all values = record {
 }
 
 -- what is written before spaces and comments
-written_none : (blank : List Lexeme) → AreBlank blank → written blank ≡ []
-written_none blank all = ap written (sym (append-nil blank)) ∙ written_blank blank [] all
+written_none : (blank : List Lexeme) → AreBlank blank → without_blanks blank ≡ []
+written_none blank all = ap without_blanks (sym (append-nil blank)) ∙ written_blank blank [] all
 
 pub blank_behind : (defined : Defined) (piece blank stand : List Lexeme) → AreBlank blank → IsValues defined piece stand → IsValues defined (piece ++ blank) stand
 blank_behind defined piece blank stand all values =
-    let same : written (piece ++ blank) ≡ written piece = filter-append (λ t. not (is_blank t.kind)) piece blank ∙ ap (λ xs. written piece ++ xs) (written_none blank all) ∙ append-nil (written piece) in
+    let same : without_blanks (piece ++ blank) ≡ without_blanks piece = filter-append (λ t. not (is_blank t.kind)) piece blank ∙ ap (λ xs. without_blanks piece ++ xs) (written_none blank all) ∙ append-nil (without_blanks piece) in
     record {
       values = ap (list_all (λ t. is_value t.kind)) same ∙ values.values;
       replaced = ap (stand_for defined) same ∙ values.replaced;
@@ -188,7 +183,7 @@ important_found mark ts rest b is_mark is =
     let first : (w : Lexeme × List Lexeme) × (token_at is_important (past_blanks ts) ≡ Ok w) × (Ok (true, past_blanks w.1) ≡ Ok (b, rest)) =
     parts_of (token_at is_important (past_blanks ts)) (λ w. Ok (true, past_blanks w.1)) b rest is in
     let word : (past_blanks ts ≡ first.0.0 ∷ first.0.1) × (is_important first.0.0 ≡ true) = token_found is_important (past_blanks ts) first.0.1 first.0.0 first.1 in
-    let named : (is_name_token first.0.0.kind ≡ true) × (bytes_eq first.0.0.bytes (codes "important") ≡ true) = and-both (is_name_token first.0.0.kind) (bytes_eq first.0.0.bytes (codes "important")) word.1 in
+    let named : (is_name_token first.0.0.kind ≡ true) × (bytes_eq first.0.0.bytes (codes "important") ≡ true) = and_parts (is_name_token first.0.0.kind) (bytes_eq first.0.0.bytes (codes "important")) word.1 in
     let gap : Takes AreBlank ts (past_blanks ts) = past_found ts in
     let behind : Takes AreBlank first.0.1 (past_blanks first.0.1) = past_found first.0.1 in
     let same : (true ≡ b) × (past_blanks first.0.1 ≡ rest) = given true b (past_blanks first.0.1) rest first.2 in
@@ -232,9 +227,6 @@ then_values name first found = importance_at found.1 >>= then_importance name fi
 
 abbrev then_first : Defined → Lexeme → ℕ × List Lexeme → Read Spelled
 then_first defined name found = values_at defined found.1 >>= then_values name found.0
-
-abbrev then_colon : Defined → Lexeme → Lexeme × List Lexeme → Read Spelled
-then_colon defined name found = first_value_at found.1 >>= then_first defined name
 
 pub spelled_found : (defined : Defined) (name : Lexeme) (ts rest : List Lexeme) (s : Spelled) → spelled_at defined name ts ≡ Ok (s, rest) → SpelledFound defined name ts s rest
 unfolding spelled_at first_value_at

@@ -2,8 +2,8 @@ pub mod AgainBodies
 pub mod AgainSheets
 pub mod AgainValues
 pub mod BodySteps
-pub mod Cases
 pub mod Counts
+pub mod DefaultRead
 pub mod Definitions
 pub mod FirstFaults
 pub mod FoundBodies
@@ -17,5 +17,5 @@ pub mod SelectorSteps
 pub mod SheetSteps
 pub mod Turns
 pub mod ValueSteps
-pub mod WholeTexts
-pub mod DefaultRead
+pub mod WholeAnswers
+pub mod lemmas

@@ -1,12 +1,13 @@
 -- What is read of a declaration depends on nothing behind the token at which it stops or meets a fault.
 use Rattle.std.proofs.Common.{◌≡◌, ℕ, ◌+◌, Bool, true, false, cond, not, ◌&&◌, ◌||◌, List, [], ◌∷◌, ◌++◌, length, nat_lt, Option, Some, None, Result, Ok, Err, refl}
 use Rattle.tx_read.specs.Reading.{◌>>=◌, in_turn}
-use Rattle.tx_read.proofs.LocalReaders.{Plain, turn, same, Step, Take, Leave, Refuse, stepped, at_end, by_first, first-plain, give-plain}
+use Rattle.tx_read.proofs.lemmas.LocalReaders.{Plain, turn, same, Step, Take, Leave, Refuse, stepped, at_end, by_first, first-plain, give-plain}
 use Rattle.tx_lex.specs.Lexemes.{Lexeme, is_blank, is_name_token, is_mark}
 use Rattle.tx_value.specs.Declarations.{Pair, declaration}
 use Rattle.tx_value.specs.Names.{is_known}
 use Rattle.tx_value.specs.declared.fault.ValueFault.{ValueFault}
-use Rattle.tx_parse.specs.Reads.{Reads, met, expected, give, past_blanks, token_at, mark_at, added, values_from, at_least_one, values_at, place_of, first_value_at, is_important, important_word_at, importance_at, Spelled, spelled, spelled_at, is_end, told, ended, declaration_at}
+use Rattle.tx_lex.specs.Blanks.{past_blanks}
+use Rattle.tx_parse.specs.SheetReading.{Reads, met, expected, give, token_at, mark_at, added, values_from, at_least_one, values_at, place_of, first_value_at, is_important, important_word_at, importance_at, Spelled, spelled, spelled_at, is_end, told, ended, declaration_at}
 use Rattle.tx_parse.specs.Values.{DeclarationValue, important_pairs}
 use Rattle.tx_parse.specs.Variables.{Defined, is_value, stands_for}
 use Rattle.tx_parse.specs.declared.fault.SheetKind.{SheetKind}
@@ -179,9 +180,6 @@ pub ended-plain : (inline : Bool) (s : Spelled) → Plain (ended inline s)
 unfolding end_step
 ended-plain inline s = of_pairs (declaration s.name.bytes s.stand)
   where
-    ended_by : Result (List Pair) ValueFault → Reads (List DeclarationValue)
-    ended_by pairs ts = cond (is_end inline ts) (told s pairs ts) (expected ts)
-
     chosen : (t : Lexeme) (ts : List Lexeme) (b : Bool) (pairs : Result (List Pair) ValueFault) → cond b (told s pairs (t ∷ ts)) (expected (t ∷ ts)) ≡ stepped t ts (cond b (judged_step s pairs) (Refuse (wrong_of Expected)))
     chosen t ts true (Ok pairs) = refl
     chosen t ts true (Err fault) = refl

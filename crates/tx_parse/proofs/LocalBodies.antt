@@ -1,16 +1,17 @@
 -- The same of declarations one behind another. Each one takes something, so that they come to an end.
 use Rattle.std.proofs.Common.{◌≡◌, ℕ, zero, suc, ◌+◌, ◌≤◌, ◌<◌, Bool, true, false, cond, List, [], ◌∷◌, ◌++◌, length, Result, Ok, Err, refl, ap, ◌∙◌, subst, arith}
 use Rattle.tx_read.specs.Reading.{◌>>=◌, in_turn}
-use Rattle.tx_read.proofs.LocalReaders.{Plain, turn, same, Step, Take, Leave, stepped, by_first, first-plain, give-plain}
+use Rattle.tx_read.proofs.lemmas.LocalReaders.{Plain, turn, same, Step, Take, Leave, stepped, by_first, first-plain, give-plain}
 use Rattle.tx_lex.specs.Lexemes.{Lexeme, is_name_token, is_mark}
 use Rattle.tx_value.specs.Names.{is_known}
 use Rattle.tx_parse.specs.Grammar.{Body, nothing}
-use Rattle.tx_parse.specs.Reads.{Read, Reads, met, expected, give, past_blanks, ends_body, declaration_at, with_declarations, item_at, past_end, next_in_body, body_from, body_at, inline_at}
+use Rattle.tx_lex.specs.Blanks.{past_blanks}
+use Rattle.tx_parse.specs.SheetReading.{Read, Reads, met, expected, give, ends_body, declaration_at, with_declarations, item_at, past_end, next_in_body, body_from, body_at, inline_at}
 use Rattle.tx_parse.specs.Values.{DeclarationValue}
 use Rattle.tx_parse.specs.Variables.{Defined}
 use Rattle.tx_parse.specs.declared.fault.SheetKind.TheVariants.{Expected, UnknownProperty}
 use Rattle.tx_parse.specs.declared.fault.Wrong.{Wrong}
-use Rattle.tx_parse.proofs.Cases.{given, refused, both}
+use Rattle.tx_read.proofs.lemmas.Cases.{given, refused, both}
 use Rattle.tx_parse.proofs.Local.{wrong_of, expected-plain, blanks-plain, spaced-plain, declaration-plain, behind_name, behind_name-plain}
 use Rattle.tx_parse.proofs.Scans.{plain_shorter}
 

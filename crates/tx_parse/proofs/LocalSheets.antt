@@ -1,22 +1,23 @@
 -- The same of rules, variables and sheets.
 use Rattle.std.proofs.Common.{◌≡◌, ℕ, zero, suc, ◌≤◌, ◌<◌, Bool, true, false, cond, List, [], ◌∷◌, ◌++◌, length, drop, nat_lt, Result, Ok, Err, refl, ap, subst, arith}
-use Rattle.tx_tree.specs.Name.{is_name}
+use Rattle.tx_text.specs.Name.{is_name}
 use Rattle.tx_read.specs.Reading.{in_turn}
-use Rattle.tx_read.proofs.LocalReaders.{Plain, turn, same, Step, Take, Leave, Refuse, stepped, by_first, first-plain, give-plain}
+use Rattle.tx_read.proofs.lemmas.LocalReaders.{Plain, turn, same, Step, Take, Leave, Refuse, stepped, by_first, first-plain, give-plain}
 use Rattle.tx_lex.specs.Lexemes.{Lexeme, is_variable, is_mark}
 use Rattle.tx_select.specs.Lexemes.{begins_compound}
-use Rattle.tx_select.specs.Reads.{selector_at}
+use Rattle.tx_select.specs.SelectorReading.{selector_at}
 use Rattle.tx_select.specs.declared.fault.SelectKind.{SelectKind}
 use Rattle.tx_select.specs.declared.value.Compound.{Compound}
 use Rattle.tx_select.specs.declared.value.Selector.{Selector}
-use Rattle.tx_select.proofs.Local.{selectors-local}
+use Rattle.tx_select.proofs.lemmas.SelectorLaws.{selectors-local}
 use Rattle.tx_parse.specs.Grammar.{Found, nothing_found, with_variable, with_rule}
-use Rattle.tx_parse.specs.Reads.{Reads, met, expected, give, past_blanks, mark_at, values_at, body_at, kind_of, as_selector, spaced_selector_at, goes_on_at, then_selectors, selectors_from, selectors_at, rule_of, rule_at, definition_at, variable_in_sheet, rule_in_sheet, part_at, next_in_sheet, sheet_from, sheet_at}
+use Rattle.tx_lex.specs.Blanks.{past_blanks}
+use Rattle.tx_parse.specs.SheetReading.{Reads, met, expected, give, mark_at, values_at, body_at, kind_of, as_selector, spaced_selector_at, goes_on_at, then_selectors, selectors_from, selectors_at, rule_of, rule_at, definition_at, variable_in_sheet, rule_in_sheet, part_at, next_in_sheet, sheet_from, sheet_at}
 use Rattle.tx_parse.specs.Values.{RuleValue}
 use Rattle.tx_parse.specs.Variables.{Defined}
 use Rattle.tx_parse.specs.declared.fault.SheetKind.TheVariants.{Expected, TooManyRules}
 use Rattle.tx_parse.specs.declared.fault.Wrong.{Wrong}
-use Rattle.tx_parse.proofs.Cases.{given, refused, both}
+use Rattle.tx_read.proofs.lemmas.Cases.{given, refused, both}
 use Rattle.tx_parse.proofs.Local.{wrong_of, met-plain, expected-plain, spaced-plain, mark-plain, values-plain}
 use Rattle.tx_parse.proofs.LocalBodies.{turn_same, IsEnough, fuelled-plain, past_shorter, body-plain}
 use Rattle.tx_parse.proofs.Scans.{plain_shorter, mapped, mapped-plain}

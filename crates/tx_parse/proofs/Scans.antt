@@ -1,7 +1,8 @@
 -- Readers that go on over some tokens, and those whose answers are seen otherwise.
 use Rattle.std.proofs.Common.{◌≡◌, ◌+◌, ◌≤◌, List, [], ◌∷◌, ◌++◌, length, Result, Ok, Err, refl, ap, ◌∙◌, arith, length-append}
 use Rattle.tx_read.specs.Reading.{Reader}
-use Rattle.tx_read.proofs.LocalReaders.{Plain, given, refused, wrong, granted, no_longer}
+use Rattle.tx_read.proofs.lemmas.Cases.{given, refused, wrong, granted}
+use Rattle.tx_read.proofs.lemmas.LocalReaders.{Plain, no_longer}
 
 -- ---- what a list is an end of
 

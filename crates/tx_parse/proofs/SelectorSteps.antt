@@ -1,15 +1,13 @@
 -- The steps of reading the selectors of a rule.
-use Rattle.std.proofs.Common.{◌≡◌, ℕ, suc, Bool, true, false, List, [], ◌∷◌, ◌++◌, Ok, Err, ap, sym, ◌∙◌}
-use Rattle.tx_lex.specs.Lexemes.{Lexeme, lexemes_from}
-use Rattle.tx_lex.specs.declared.token.Token.{Token}
+use Rattle.std.proofs.Common.{◌≡◌, ℕ, suc, Bool, true, false, List, [], ◌∷◌, ◌++◌, Option, Ok, ap, sym, ◌∙◌}
+use Rattle.tx_read.specs.Answer.{Tells}
 use Rattle.tx_read.specs.Reading.{in_turn}
+use Rattle.tx_lex.specs.Lexemes.{Lexeme}
 use Rattle.tx_select.specs.declared.value.Selector.{Selector}
-use Rattle.tx_parse.specs.Answers.{GivesAs, GivesSame}
-use Rattle.tx_parse.specs.Reads.{Reads, Read, past_blanks, expected, spaced_selector_at, goes_on_at, then_selectors, selectors_from}
-use Rattle.tx_parse.specs.Seen.{selectors_in}
-use Rattle.tx_parse.specs.declared.fault.Stop.{Stop}
-use Rattle.tx_parse.specs.declared.fault.Stop.TheVariants.{At, Memory}
-use Rattle.tx_parse.proofs.Turns.{turn_ok, turn_err}
+use Rattle.tx_lex.specs.Blanks.{past_blanks}
+use Rattle.tx_parse.specs.SheetReading.{Reads, Read, expected, spaced_selector_at, goes_on_at, then_selectors, selectors_from}
+use Rattle.tx_parse.specs.declared.fault.Wrong.{Wrong}
+use Rattle.tx_parse.proofs.Turns.{turn_ok, turn_told, told_same}
 
 abbrev pub behind_one : ℕ → List Selector → Selector → Reads (List Selector)
 behind_one most found selector = in_turn goes_on_at (then_selectors (selectors_from most) (found ++ (selector ∷ [])))
@@ -39,18 +37,18 @@ selectors_last most rest found start here next behind selector more all count so
     one_then most rest found start here next behind selector more count so_far is then ∙ ap (λ m. then_selectors (selectors_from rest) (found ++ (selector ∷ [])) m behind) no_more
     ∙ ap (λ f. Ok (f, behind)) (sym pushed)
 
-pub selectors_bad : (text : List ℕ) (tokens : List Token) (most rest : ℕ) (found : List Selector) (start : Read (List Selector)) (here : List Lexeme) (stop : Stop) → most ≡ suc rest → selectors_from most found here ≡ start
-    → GivesSame {A = Selector} text tokens (Err stop) (spaced_selector_at here) → GivesAs selectors_in text tokens (Err stop) start
+pub selectors_bad : (told : Option (Wrong × List Lexeme)) (most rest : ℕ) (found : List Selector) (start : Read (List Selector)) (here : List Lexeme) → most ≡ suc rest → selectors_from most found here ≡ start
+    → Tells told (spaced_selector_at here) → Tells told start
 unfolding selectors_from
-selectors_bad text tokens most rest found start here (At wrong at) count so_far is =
-    sym so_far ∙ ap (λ n. selectors_from n found here) count ∙ turn_err spaced_selector_at (behind_one rest found) here (wrong, lexemes_from text tokens at) is
-selectors_bad text tokens most rest found start here Memory count so_far is = tt
+selectors_bad told most rest found start here count so_far is =
+    told_same told start (in_turn spaced_selector_at (behind_one rest found) here) (sym so_far ∙ ap (λ n. selectors_from n found here) count)
+    (turn_told told spaced_selector_at (behind_one rest found) here is)
 
-pub selectors_stop : (text : List ℕ) (tokens : List Token) (most rest : ℕ) (found : List Selector) (start : Read (List Selector)) (here next : List Lexeme) (selector : Selector) (stop : Stop) → most ≡ suc rest → selectors_from most found here ≡ start
-    → spaced_selector_at here ≡ Ok (selector, next) → GivesSame {A = Bool} text tokens (Err stop) (goes_on_at next) → GivesAs selectors_in text tokens (Err stop) start
-selectors_stop text tokens most rest found start here next selector (At wrong at) count so_far is then =
-    one most rest found start here next selector count so_far is ∙ turn_err goes_on_at (then_selectors (selectors_from rest) (found ++ (selector ∷ []))) next (wrong, lexemes_from text tokens at) then
-selectors_stop text tokens most rest found start here next selector Memory count so_far is then = tt
+pub selectors_stop : (told : Option (Wrong × List Lexeme)) (most rest : ℕ) (found : List Selector) (start : Read (List Selector)) (here next : List Lexeme) (selector : Selector) → most ≡ suc rest → selectors_from most found here ≡ start
+    → spaced_selector_at here ≡ Ok (selector, next) → Tells told (goes_on_at next) → Tells told start
+selectors_stop told most rest found start here next selector count so_far is then =
+    told_same told start (behind_one rest found selector next) (one most rest found start here next selector count so_far is)
+    (turn_told told goes_on_at (then_selectors (selectors_from rest) (found ++ (selector ∷ []))) next then)
 
 -- the selector past the last one that is allowed
 pub selectors_past : (most : ℕ) (found : List Selector) (start : Read (List Selector)) (here : List Lexeme) → most ≡ 0 → selectors_from most found here ≡ start → start ≡ expected (past_blanks here)

@@ -1,18 +1,15 @@
 -- The steps of reading the variables and rules of a sheet.
-use Rattle.std.proofs.Common.{◌≡◌, ℕ, suc, ◌-◌, ◌≤◌, ◌<◌, List, [], ◌∷◌, length, Ok, Err, ap, sym, ◌∙◌, arith}
+use Rattle.std.proofs.Common.{◌≡◌, ℕ, suc, ◌-◌, ◌≤◌, ◌<◌, List, ◌∷◌, length, Ok, ap, sym, ◌∙◌, arith}
 use Rattle.tx_lex.specs.Lexemes.{Lexeme, lexemes_from}
 use Rattle.tx_lex.specs.declared.token.Token.{Token}
 use Rattle.tx_read.specs.Reading.{in_turn}
-use Rattle.tx_parse.specs.Answers.{GivesAs}
 use Rattle.tx_parse.specs.Grammar.{Found, nothing_found}
-use Rattle.tx_parse.specs.Reads.{past_blanks, part_at, next_in_sheet, sheet_from, sheet_at}
-use Rattle.tx_parse.specs.Seen.{found_in}
-use Rattle.tx_parse.specs.declared.fault.Stop.{Stop}
-use Rattle.tx_parse.specs.declared.fault.Stop.TheVariants.{At, Memory}
+use Rattle.tx_lex.specs.Blanks.{past_blanks}
+use Rattle.tx_parse.specs.SheetReading.{part_at, next_in_sheet, sheet_from, sheet_at}
 use Rattle.tx_parse.proofs.BodySteps.{above, length_from}
 use Rattle.tx_parse.proofs.LocalBodies.{past_shorter}
 use Rattle.tx_parse.proofs.LocalSheets.{part_shorter}
-use Rattle.tx_parse.proofs.Turns.{turn_ok, turn_err}
+use Rattle.tx_parse.proofs.Turns.{turn_ok}
 
 -- What was found so far, and what is read from here on, is what is read in all.
 pub record SheetSoFar (found : Found) (here start : List Lexeme) : Type 0 where
@@ -54,17 +51,6 @@ sheet_next found more here start rest next t ts so_far is part past =
           ∙ ap (in_turn (part_at found) (sheet_from so_far.most)) is
           ∙ sym (ap (next_in_sheet (sheet_from so_far.most) found) is) ∙ so_far.same;
     }
-
-pub sheet_ends : (found : Found) (here start : List Lexeme) → SheetSoFar found here start → here ≡ [] → sheet_at start ≡ Ok (found, here)
-sheet_ends found here start so_far is = sym so_far.same ∙ ap (next_in_sheet (sheet_from so_far.most) found) is ∙ ap (λ r. Ok (found, r)) (sym is)
-
-pub sheet_err : (text : List ℕ) (tokens : List Token) (found : Found) (here start : List Lexeme) (t : Lexeme) (ts : List Lexeme) (stop : Stop) → SheetSoFar found here start → here ≡ t ∷ ts
-    → GivesAs (found_in text) text tokens (Err stop) (part_at found here) → GivesAs (found_in text) text tokens (Err stop) (sheet_at start)
-sheet_err text tokens found here start t ts (At wrong at) so_far is part =
-    sym so_far.same ∙ ap (next_in_sheet (sheet_from so_far.most) found) is
-    ∙ sym (ap (in_turn (part_at found) (sheet_from so_far.most)) is)
-    ∙ turn_err (part_at found) (sheet_from so_far.most) here (wrong, lexemes_from text tokens at) part
-sheet_err text tokens found here start t ts Memory so_far is part = tt
 
 -- so the number of tokens that are left gets less
 pub fewer_left : (text : List ℕ) (tokens : List Token) (found more : Found) (at rest next : ℕ) → part_at found (lexemes_from text tokens at) ≡ Ok (more, lexemes_from text tokens rest)

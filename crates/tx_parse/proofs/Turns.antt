@@ -1,21 +1,34 @@
 -- One reader behind another, where the first one's answer is known.
-use Rattle.std.proofs.Common.{◌≡◌, ℕ, Bool, List, Ok, Err, ap, sym, ◌∙◌}
+use Rattle.std.specs.Result.{IsErrAnd}
+use Rattle.std.proofs.Common.{◌≡◌, ℕ, Bool, List, Option, Some, None, Result, Ok, Err, ap, sym, ◌∙◌, subst}
+use Rattle.tx_read.specs.Answer.{Tells}
 use Rattle.tx_read.specs.Reading.{◌>>=◌, in_turn}
-use Rattle.tx_lex.specs.Lexemes.{Lexeme, lexemes_from}
+use Rattle.tx_lex.specs.Lexemes.{Lexeme}
 use Rattle.tx_lex.specs.declared.token.Token.{Token}
-use Rattle.tx_parse.specs.Answers.{GivesAs, GivesSame, gathered_in}
-use Rattle.tx_parse.specs.Seen.{spelled_in}
+use Rattle.tx_parse.specs.Answers.{told_in, GivesAs}
 use Rattle.tx_parse.specs.declared.fault.Stop.{Stop}
-use Rattle.tx_parse.specs.declared.fault.Stop.TheVariants.{At, Memory}
-use Rattle.tx_parse.specs.Reads.{Reads, past_blanks, place_of, mark_at, first_value_at, values_at, importance_at, Spelled, spelled, spelled_at, give}
+use Rattle.tx_lex.specs.Blanks.{past_blanks}
+use Rattle.tx_parse.specs.SheetReading.{Read, Reads, place_of, mark_at, first_value_at, values_at, importance_at, Spelled, spelled, spelled_at, give}
 use Rattle.tx_parse.specs.Variables.{Defined}
 use Rattle.tx_parse.specs.declared.fault.Wrong.{Wrong}
 
 pub turn_ok : {A B : Type 0} (first : Reads A) (second : A → Reads B) (s t : List Lexeme) (a : A) → first s ≡ Ok (a, t) → in_turn first second s ≡ second a t
 turn_ok first second s t a is = ap (λ r. r >>= (λ found. second found.0 found.1)) is
 
-pub turn_err : {A B : Type 0} (first : Reads A) (second : A → Reads B) (s : List Lexeme) (fault : Wrong × List Lexeme) → first s ≡ Err fault → in_turn first second s ≡ Err fault
-turn_err first second s fault is = ap (λ r. r >>= (λ found. second found.0 found.1)) is
+-- what the first one tells is told
+pub turn_told : {A B : Type 0} (told : Option (Wrong × List Lexeme)) (first : Reads A) (second : A → Reads B) (s : List Lexeme) → Tells told (first s) → Tells told (in_turn first second s)
+turn_told None first second s is = tt
+turn_told (Some fault) first second s is = ap (λ r. r >>= (λ found. second found.0 found.1)) is
+
+-- the same is told of the same reading
+pub told_same : {A : Type 0} (told : Option (Wrong × List Lexeme)) (one other : Read A) → one ≡ other → Tells told other → Tells told one
+told_same told one other same is = subst (λ read. Tells told read) (sym same) is
+
+-- a stop that is passed on tells the same
+pub passed_on : {A B : Type 0} (view : A → B) (text : List ℕ) (tokens : List Token) (result : Result (A × ℕ) Stop) (stop : Stop) (read : Read B)
+    → IsErrAnd result (λ other. other ≡ stop) → Tells (told_in text tokens stop) read → GivesAs view text tokens result read
+passed_on view text tokens (Ok found) stop read is tells = absurd is
+passed_on view text tokens (Err other) stop read is tells = subst (λ one. Tells (told_in text tokens one) read) (sym is) tells
 
 -- ---- what stands behind the name of a property
 
@@ -47,15 +60,14 @@ spelled_ok defined name colon ts behind here stand rest last first important is 
     ∙ turn_ok importance_at (λ important. give (spelled name (place_of here) stand important)) rest last important importance
     ∙ ap (λ n. Ok (spelled name n stand important, last)) (sym place)
 
-pub spelled_bad_values : (text : List ℕ) (tokens : List Token) (defined : Defined) (name colon : Lexeme) (ts behind here : List Lexeme) (stop : Stop) → mark_at 58 ts ≡ Ok (colon, behind) → here ≡ past_blanks behind
-    → GivesAs (gathered_in text) text tokens (Err stop) (values_at defined here) → GivesAs (spelled_in text) text tokens (Err stop) (spelled_at defined name ts)
-spelled_bad_values text tokens defined name colon ts behind here (At wrong at) is past values =
-    to_values defined name colon ts behind here is past ∙ turn_err (values_at defined) (behind_values name (place_of here)) here (wrong, lexemes_from text tokens at) values
-spelled_bad_values text tokens defined name colon ts behind here Memory is past values = tt
+pub spelled_bad_values : (told : Option (Wrong × List Lexeme)) (defined : Defined) (name colon : Lexeme) (ts behind here : List Lexeme) → mark_at 58 ts ≡ Ok (colon, behind) → here ≡ past_blanks behind
+    → Tells told (values_at defined here) → Tells told (spelled_at defined name ts)
+spelled_bad_values told defined name colon ts behind here is past values =
+    told_same told (spelled_at defined name ts) (behind_first defined name (place_of here) here) (to_values defined name colon ts behind here is past)
+    (turn_told told (values_at defined) (behind_values name (place_of here)) here values)
 
-pub spelled_bad_importance : (text : List ℕ) (tokens : List Token) (defined : Defined) (name colon : Lexeme) (ts behind here stand rest : List Lexeme) (stop : Stop) → mark_at 58 ts ≡ Ok (colon, behind) → here ≡ past_blanks behind
-    → values_at defined here ≡ Ok (stand, rest) → GivesSame text tokens (Err stop) (importance_at rest) → GivesAs (spelled_in text) text tokens (Err stop) (spelled_at defined name ts)
-spelled_bad_importance text tokens defined name colon ts behind here stand rest (At wrong at) is past values importance =
-    to_importance defined name colon ts behind here stand rest is past values
-    ∙ turn_err importance_at (λ important. give (spelled name (place_of here) stand important)) rest (wrong, lexemes_from text tokens at) importance
-spelled_bad_importance text tokens defined name colon ts behind here stand rest Memory is past values importance = tt
+pub spelled_bad_importance : (told : Option (Wrong × List Lexeme)) (defined : Defined) (name colon : Lexeme) (ts behind here stand rest : List Lexeme) → mark_at 58 ts ≡ Ok (colon, behind) → here ≡ past_blanks behind
+    → values_at defined here ≡ Ok (stand, rest) → Tells told (importance_at rest) → Tells told (spelled_at defined name ts)
+spelled_bad_importance told defined name colon ts behind here stand rest is past values importance =
+    told_same told (spelled_at defined name ts) (behind_values name (place_of here) stand rest) (to_importance defined name colon ts behind here stand rest is past values)
+    (turn_told told importance_at (λ important. give (spelled name (place_of here) stand important)) rest importance)

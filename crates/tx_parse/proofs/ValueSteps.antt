@@ -1,16 +1,15 @@
 -- The steps of reading values.
-use Rattle.std.proofs.Common.{◌≡◌, ℕ, ◌+◌, Bool, true, false, cond, List, [], ◌∷◌, ◌++◌, length, nat_lt, Option, Some, None, Ok, Err, refl, ap, sym, ◌∙◌}
-use Rattle.tx_lex.specs.Lexemes.{Lexeme, lexemes_from, is_blank, first_is}
-use Rattle.tx_lex.specs.declared.token.Token.{Token}
+use Rattle.std.proofs.Common.{◌≡◌, ◌+◌, Bool, true, false, cond, List, [], ◌∷◌, ◌++◌, length, nat_lt, Option, Some, None, Ok, refl, ap, sym, ◌∙◌}
+use Rattle.tx_lex.specs.Lexemes.{Lexeme, is_blank, first_is}
+use Rattle.tx_read.specs.Answer.{Tells}
 use Rattle.tx_read.specs.Reading.{◌>>=◌}
-use Rattle.tx_parse.specs.Reads.{Read, past_blanks, added, values_from, met}
+use Rattle.tx_lex.specs.Blanks.{past_blanks}
+use Rattle.tx_parse.specs.SheetReading.{Read, added, values_from, met}
 use Rattle.tx_parse.specs.Variables.{Defined, is_value, stands_for}
-use Rattle.tx_parse.specs.Answers.{GivesAs, gathered_in}
-use Rattle.tx_parse.specs.declared.fault.Stop.{Stop}
-use Rattle.tx_parse.specs.declared.fault.Stop.TheVariants.{At, Memory}
 use Rattle.tx_parse.specs.declared.fault.Wrong.{Wrong}
 use Rattle.tx_parse.specs.declared.fault.SheetKind.TheVariants.{ValueTooLong}
-use Rattle.tx_parse.proofs.Cases.{given}
+use Rattle.tx_read.proofs.lemmas.Cases.{given}
+use Rattle.tx_parse.proofs.Turns.{told_same}
 
 -- no blank stands behind blanks
 pub past_first : (ts : List Lexeme) → first_is is_blank (past_blanks ts) ≡ false
@@ -69,9 +68,10 @@ values_step defined found t ts all rest blank value is =
     ∙ ap (λ r. r >>= (λ more. values_from defined more.0 ts)) is
     ∙ ap (values_from defined all) (sym (added_rest found t ts (stands_for defined t) all rest is))
 
-pub values_fault : (defined : Defined) (found : List Lexeme) (t : Lexeme) (ts : List Lexeme) (fault : Wrong × List Lexeme) → is_blank t.kind ≡ false → is_value t.kind ≡ true
-    → added found t ts (stands_for defined t) ≡ Err fault → values_from defined found (t ∷ ts) ≡ Err fault
-values_fault defined found t ts fault blank value is =
+pub values_fault : (told : Option (Wrong × List Lexeme)) (defined : Defined) (found : List Lexeme) (t : Lexeme) (ts : List Lexeme) → is_blank t.kind ≡ false → is_value t.kind ≡ true
+    → Tells told (added found t ts (stands_for defined t)) → Tells told (values_from defined found (t ∷ ts))
+values_fault None defined found t ts blank value is = tt
+values_fault (Some fault) defined found t ts blank value is =
     values_value defined found t ts blank value ∙ ap (λ r. r >>= (λ more. values_from defined more.0 ts)) is
 
 -- ---- the loop: no blank stands here, and the values so far and those from here on are the values in all
@@ -104,9 +104,8 @@ pub values_end : (defined : Defined) (found here start : List Lexeme) → SoFar 
 values_end defined found here start so_far is =
     sym so_far.same ∙ ap (values_from defined found) is ∙ values_none defined found ∙ ap (λ r. Ok (found, r)) (sym is)
 
-pub values_err : (defined : Defined) (text : List ℕ) (tokens : List Token) (found here start : List Lexeme) (t : Lexeme) (ts : List Lexeme) (stop : Stop) → SoFar defined found here start → here ≡ t ∷ ts
-    → is_value t.kind ≡ true → GivesAs (gathered_in text) text tokens (Err stop) (added found t ts (stands_for defined t)) → GivesAs (gathered_in text) text tokens (Err stop) (values_from defined [] start)
-values_err defined text tokens found here start t ts (At wrong at) so_far is value fault =
-    sym so_far.same ∙ ap (values_from defined found) is
-    ∙ values_fault defined found t ts (wrong, lexemes_from text tokens at) (sym (ap (first_is is_blank) is) ∙ so_far.first) value fault
-values_err defined text tokens found here start t ts Memory so_far is value fault = tt
+pub values_err : (told : Option (Wrong × List Lexeme)) (defined : Defined) (found here start : List Lexeme) (t : Lexeme) (ts : List Lexeme) → SoFar defined found here start → here ≡ t ∷ ts
+    → is_value t.kind ≡ true → Tells told (added found t ts (stands_for defined t)) → Tells told (values_from defined [] start)
+values_err told defined found here start t ts so_far is value fault =
+    told_same told (values_from defined [] start) (values_from defined found (t ∷ ts)) (sym so_far.same ∙ ap (values_from defined found) is)
+    (values_fault told defined found t ts (sym (ap (first_is is_blank) is) ∙ so_far.first) value fault)

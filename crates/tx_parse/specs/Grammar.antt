@@ -2,21 +2,22 @@
 use Rattle.std.specs.Prelude.{◌≡◌, ◌≢◌, ◌⊎◌, ℕ, ◌+◌, ◌≤◌, min, Bool, true, false, List, [], ◌∷◌, ◌++◌, length, drop, Some, Ok, codes}
 use Rattle.std.specs.List.{list_all}
 use Rattle.tx_read.specs.Reading.{Items}
+use Rattle.tx_lex.specs.Blanks.{without_blanks}
 use Rattle.tx_lex.specs.Lexemes.{Lexeme}
 use Rattle.tx_lex.specs.declared.token.TokenKind.TheVariants.{Name, Variable, Mark}
-use Rattle.tx_tree.specs.Name.{IsName}
+use Rattle.tx_text.specs.Name.{IsName}
 use Rattle.tx_select.specs.Grammar.{AreBlank, IsWhole}
 use Rattle.tx_select.specs.declared.value.Selector.{Selector}
 use Rattle.tx_value.specs.Declarations.{Pair, declaration}
-use Rattle.tx_parse.specs.Variables.{Defined, is_value, stand_for, written, with_definition}
+use Rattle.tx_parse.specs.Variables.{Defined, is_value, stand_for, with_definition}
 use Rattle.tx_parse.specs.Values.{DeclarationValue, RuleValue, important_pairs}
 
 -- ---- values
 
 -- One or more, at most 64 when each variable is replaced by the tokens that it stands for. Spaces and comments stand anywhere.
 pub record IsValues (defined : Defined) (ts stand : List Lexeme) : Type 0 where
-  pub values : list_all (λ t. is_value t.kind) (written ts) ≡ true
-  pub replaced : stand_for defined (written ts) ≡ Some stand
+  pub values : list_all (λ t. is_value t.kind) (without_blanks ts) ≡ true
+  pub replaced : stand_for defined (without_blanks ts) ≡ Some stand
   pub some : stand ≢ []
   pub few : length stand ≤ 64
 

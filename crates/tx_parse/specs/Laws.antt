@@ -5,7 +5,7 @@ use Rattle.tx_parse.specs.Default.{default_rules}
 use Rattle.tx_parse.specs.declared.default.TheConstants.{DEFAULT_SHEET}
 use Rattle.tx_parse.specs.Grammar.{Body, Found, IsSheet, IsBody}
 use Rattle.tx_parse.specs.declared.fault.Wrong.{Wrong}
-use Rattle.tx_parse.specs.Reads.{sheet_at, inline_at}
+use Rattle.tx_parse.specs.SheetReading.{sheet_at, inline_at}
 use Rattle.tx_parse.specs.Texts.{sheet_of, inline_of, IsSheetText, IsInlineText}
 
 -- a list of tokens is read exactly where it is in the grammar, as what it is there

@@ -3,8 +3,8 @@ pub mod Default
 pub mod Grammar
 pub mod Laws
 pub mod Places
-pub mod Reads
 pub mod Seen
+pub mod SheetReading
 pub mod Texts
 pub mod Uses
 pub mod Values

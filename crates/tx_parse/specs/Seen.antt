@@ -5,7 +5,7 @@ use Rattle.tx_lex.specs.Lexemes.{Lexeme, lexeme, lexemes}
 use Rattle.tx_lex.specs.declared.token.Token.{Token}
 use Rattle.tx_select.specs.declared.value.Selector.{Selector}
 use Rattle.tx_parse.specs.Grammar.{Body, Found}
-use Rattle.tx_parse.specs.Reads.{Spelled}
+use Rattle.tx_parse.specs.SheetReading.{Spelled}
 use Rattle.tx_parse.specs.Values.{DeclarationValue, important_pairs}
 use Rattle.tx_parse.specs.Variables.{Defined}
 use Rattle.tx_parse.specs.declared.sheets.Gathered.{Gathered}

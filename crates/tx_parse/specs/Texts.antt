@@ -1,6 +1,5 @@
--- Sheets and inline texts as bytes, and what the calls answer.
-use Rattle.std.specs.Prelude.{◌≡◌, ℕ, List, [], ◌∷◌, ◌++◌, length, Option, Some, None, Result, Ok, Err, unwrap_or, Vec}
-use Rattle.std.specs.declared.alloc.Global.{Global}
+-- Sheets and inline texts as bytes.
+use Rattle.std.specs.Prelude.{◌≡◌, ℕ, List, [], ◌∷◌, ◌++◌, length, Option, Some, None, Result, Ok, Err, unwrap_or}
 use Rattle.tx_lex.specs.Lexing.{lexed}
 use Rattle.tx_lex.specs.Lexemes.{Lexeme, lexemes}
 use Rattle.tx_lex.specs.declared.token.Fault.{Fault}
@@ -8,10 +7,9 @@ use Rattle.tx_lex.specs.declared.token.LexKind.{LexKind}
 use Rattle.tx_lex.specs.declared.token.LexKind.TheVariants as lex
 use Rattle.tx_lex.specs.declared.token.Scanned.{Scanned}
 use Rattle.tx_lex.specs.declared.token.Token.{Token}
-use Rattle.tx_parse.specs.Values.{DeclarationValue}
 use Rattle.tx_parse.specs.Grammar.{Body, Found, IsSheet, IsBody}
 use Rattle.tx_parse.specs.declared.fault.Wrong.{Wrong}
-use Rattle.tx_parse.specs.Reads.{Read, sheet_at, inline_at}
+use Rattle.tx_parse.specs.SheetReading.{Read, sheet_at, inline_at}
 use Rattle.tx_parse.specs.Places.{line_of, column_of}
 use Rattle.tx_parse.specs.declared.fault.SheetKind.{SheetKind}
 use Rattle.tx_parse.specs.declared.fault.SheetKind.TheVariants.{Unclosed, BadByte, NumberTooLong}
@@ -66,8 +64,18 @@ judged bytes (Some fault) (Ok found) = Err (of_lexer fault)
 judged bytes fault (Err wrong) = Err (reported bytes fault wrong)
 
 -- a fault with its line and its column
-abbrev pub told : List ℕ → Report → SheetFault
-told bytes report = Text (line_of bytes report.1) (column_of bytes report.1) report.0
+abbrev pub fault_at : List ℕ → Report → SheetFault
+fault_at bytes report = Text (line_of bytes report.1) (column_of bytes report.1) report.0
+
+-- what was read, seen so, or the fault with its line and its column
+abbrev pub located : {A B : Type 0} → (A → B) → List ℕ → Result A Report → Result B SheetFault
+located view bytes (Ok found) = Ok (view found)
+located view bytes (Err report) = Err (fault_at bytes report)
+
+-- what such a fault tells: want of memory tells nothing
+abbrev pub told : SheetFault → Option SheetFault
+told (Text line column kind) = Some (Text line column kind)
+told NoMemory = None
 
 -- ---- the readings
 
@@ -85,15 +93,3 @@ pub record IsSheetText (bytes : List ℕ) (found : Found) : Type 0 where
 pub record IsInlineText (bytes : List ℕ) (body : Body) : Type 0 where
   pub sound : (lexed bytes).fault ≡ None
   pub grammar : IsBody [] (tokens_of bytes) body
-
--- ---- the answers
-
--- an answer is the reading, unless memory is wanting
-abbrev pub Refuses : {A : Type 0} → List ℕ → SheetFault → Result A Report → Type 0
-Refuses bytes (Text line column kind) (Ok found) = ⊥
-Refuses bytes (Text line column kind) (Err report) = Text line column kind ≡ told bytes report
-Refuses bytes NoMemory read = Unit {0}
-
-abbrev pub GivesInline : List ℕ → Result (Vec DeclarationValue Global) SheetFault → Type 0
-GivesInline bytes (Ok declarations) = (body : Body) × (inline_of bytes ≡ Ok body) × (declarations.items ≡ body.declarations)
-GivesInline bytes (Err fault) = Refuses bytes fault (inline_of bytes)

@@ -1,11 +1,11 @@
 -- Variables, and the tokens that values stand for.
-use Rattle.std.specs.Prelude.{ℕ, Bool, ◌||◌, not, List, [], ◌∷◌, ◌++◌, drop, filter, Option, Some, None, is_some, if◌then◌else◌}
+use Rattle.std.specs.Prelude.{ℕ, Bool, ◌||◌, List, [], ◌∷◌, ◌++◌, drop, Option, Some, None, is_some, if◌then◌else◌}
 use Rattle.std.specs.Map.{lookup}
 use Rattle.std.specs.Str.{bytes_eq}
 use Rattle.indexmap.specs.IndexMap.{insert_entry}
-use Rattle.tx_lex.specs.Lexemes.{Lexeme, is_blank, is_name_token, is_hash, is_variable, is_number, is_mark}
+use Rattle.tx_lex.specs.Lexemes.{Lexeme, is_name_token, is_hash, is_variable, is_number, is_mark}
 use Rattle.tx_lex.specs.declared.token.TokenKind.{TokenKind}
-use Rattle.tx_tree.specs.Name.{is_name}
+use Rattle.tx_text.specs.Name.{is_name}
 use Rattle.tx_value.specs.Theme.{theme_name_of}
 
 -- a token that values may have: a name, a hash, a number, a variable, `,`, `(` or `)`
@@ -26,7 +26,7 @@ latest name entries = lookup (bytes_eq name) entries
 abbrev pub with_definition : List ℕ → List Lexeme → Defined → Defined
 with_definition name stand defined = insert_entry bytes_eq defined name stand
 
--- ---- what is written, and what it stands for
+-- ---- what tokens stand for
 
 -- a variable of the theme stands for itself
 abbrev pub or_of_theme : Lexeme → Option (List Lexeme) → Option (List Lexeme)
@@ -50,7 +50,3 @@ both None rest = None
 abbrev pub stand_for : Defined → List Lexeme → Option (List Lexeme)
 stand_for defined [] = Some []
 stand_for defined (t ∷ ts) = both (stands_for defined t) (stand_for defined ts)
-
--- the tokens without spaces and comments
-abbrev pub written : List Lexeme → List Lexeme
-written ts = filter (λ t. not (is_blank t.kind)) ts

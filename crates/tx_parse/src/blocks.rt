@@ -4,16 +4,15 @@ ghost use Rattle.tx_lex.specs.Lexemes.{lexemes_from};
 ghost use Rattle.tx_value.specs.Holds.{AllHold};
 ghost use Rattle.tx_parse.specs.Answers.{GivesAs};
 ghost use Rattle.tx_parse.specs.Grammar.{counted, nothing};
-ghost use Rattle.tx_parse.specs.Reads.{item_at, body_at, with_declarations};
+ghost use Rattle.tx_parse.specs.SheetReading.{item_at, body_at, with_declarations};
 ghost use Rattle.tx_parse.specs.Seen.{defined_in, declarations_in, body_of};
 
 use crate::declarations::{Written, body_end, declaration};
 use crate::fault::{Stop, expected};
 use crate::sheet::Declaration;
-use crate::tokens::past_blanks;
 use crate::variables::Variables;
 use std::alloc::{AllocError, Global};
-use tx_lex::{Token, token_at};
+use tx_lex::{Token, past_blanks, token_at};
 
 /// Declarations, and how many were written. One that stands for several properties is written once.
 #[derive(Drop)]
@@ -60,17 +59,15 @@ fn with_declarations(found: Block, written: Written) -> Result<Block, AllocError
     ensures { IfOk result (λ block. body_of block ≡
         with_declarations (declarations_in written) (body_of found)) }
 {
-    match pushed(found.declarations, written) {
-        Ok(declarations) => Ok(Block {
-            declarations,
-            written: counted(found.written, 1),
-        }),
-        Err(error) => Err(error),
-    }
+    let declarations = pushed(found.declarations, written)?;
+    Ok(Block {
+        declarations,
+        written: counted(found.written, 1),
+    })
 }
 
 /// A `;` or a declaration, behind what was found before.
-#[tactic(auto, unfolding(crate::specs::Reads::item_at))]
+#[tactic(auto, unfolding(crate::specs::SheetReading::item_at))]
 fn item(
     alloc: Global,
     text: &[u8],
@@ -91,14 +88,9 @@ fn item(
     if first.kind.is_mark(b';') {
         return Ok((found, at + 1));
     }
-    let written = match declaration(alloc, text, tokens, at, inline, variables) {
-        Ok(written) => written,
-        Err(stop) => return Err(stop),
-    };
-    match with_declarations(found, written.0) {
-        Ok(block) => Ok((block, written.1)),
-        Err(_) => Err(Stop::Memory),
-    }
+    let written = declaration(alloc, text, tokens, at, inline, variables)?;
+    let block = with_declarations(found, written.0)?;
+    Ok((block, written.1))
 }
 
 /// Declarations and `;` up to the end, which is the `}` of a block, or the end of an inline text.
@@ -121,12 +113,8 @@ pub fn body(
         if let Some(end) = body_end(tokens, behind, inline) {
             return Ok((found, end));
         }
-        match item(alloc, text, tokens, behind, inline, variables, found) {
-            Ok(more) => {
-                found = more.0;
-                behind = past_blanks(tokens, more.1);
-            }
-            Err(stop) => return Err(stop),
-        }
+        let more = item(alloc, text, tokens, behind, inline, variables, found)?;
+        found = more.0;
+        behind = past_blanks(tokens, more.1);
     }
 }

@@ -1,20 +1,19 @@
 //! Single declarations.
-ghost use Rattle.std.specs.Prelude.{◌≡◌, ◌<◌, ◌≤◌, ℕ, List, length, Some, IfOk, IfSome};
-ghost use Rattle.std.specs.Str.{bytes_eq};
-ghost use Rattle.tx_lex.specs.Lexemes.{lexeme, lexemes, lexemes_from};
+ghost use Rattle.std.specs.Prelude.{◌≡◌, ◌<◌, ◌≤◌, ℕ, List, Some, IfOk, IfSome};
+ghost use Rattle.tx_lex.specs.Lexemes.{lexeme, lexemes_from};
 ghost use Rattle.tx_value.specs.Holds.{AllHold};
-ghost use Rattle.tx_parse.specs.Answers.{GivesAs, GivesSame, EndsBody};
-ghost use Rattle.tx_parse.specs.Reads.{is_important, important_word_at, importance_at, spelled_at, is_end, ended, declaration_at};
+ghost use Rattle.tx_parse.specs.Answers.{GivesAs, EndsBody};
+ghost use Rattle.tx_parse.specs.SheetReading.{is_important, important_word_at, importance_at, spelled_at, is_end, ended, declaration_at};
 ghost use Rattle.tx_parse.specs.Seen.{defined_in, spelled_in, declarations_in};
 ghost use Rattle.tx_parse.specs.declared.fault.SheetKind.TheVariants.{BadValue};
 ghost use Rattle.tx_parse.specs.declared.fault.Stop.TheVariants.{At};
 
 use crate::fault::{SheetKind, Stop, Wrong, expected, met};
-use crate::tokens::{mark, past_blanks, place_of};
+use crate::tokens::{mark, place_of};
 use crate::values::values;
 use crate::variables::Variables;
 use std::alloc::Global;
-use tx_lex::{Token, token_at, token_bytes};
+use tx_lex::{Token, past_blanks, token_at, token_bytes};
 use tx_value::{Property, Value, ValueFault, knows, values_of};
 
 /// What stands before the end of a declaration.
@@ -44,7 +43,7 @@ fn is_important(text: &[u8], token: Token) -> bool
 
 /// The word behind the mark `!`, and the spaces and comments behind it.
 fn important_word(text: &[u8], tokens: &[Token], at: usize) -> Result<(bool, usize), Stop>
-    ensures gives { GivesSame text.now tokens.now result
+    ensures gives { GivesAs (λ a. a) text.now tokens.now result
         (important_word_at (lexemes_from text.now tokens.now at)) }
     ensures behind { IfOk result (λ found. at ≤ found.1) }
 {
@@ -60,9 +59,9 @@ fn important_word(text: &[u8], tokens: &[Token], at: usize) -> Result<(bool, usi
 }
 
 /// Whether `!` and `important` come, with the spaces and comments behind them.
-#[tactic(auto, unfolding(crate::specs::Reads::importance_at))]
+#[tactic(auto, unfolding(crate::specs::SheetReading::importance_at))]
 fn importance(text: &[u8], tokens: &[Token], at: usize) -> Result<(bool, usize), Stop>
-    ensures gives { GivesSame text.now tokens.now result
+    ensures gives { GivesAs (λ a. a) text.now tokens.now result
         (importance_at (lexemes_from text.now tokens.now at)) }
     ensures behind { IfOk result (λ found. at ≤ found.1) }
 {
@@ -77,7 +76,7 @@ fn importance(text: &[u8], tokens: &[Token], at: usize) -> Result<(bool, usize),
 }
 
 /// What stands behind the name of a property, before the end of the declaration.
-#[tactic(auto, unfolding(crate::specs::Reads::spelled_at))]
+#[tactic(auto, unfolding(crate::specs::SheetReading::spelled_at))]
 fn before_end(
     alloc: Global,
     text: &[u8],
@@ -91,27 +90,17 @@ fn before_end(
         (lexemes_from text.now tokens.now at)) }
     ensures behind { IfOk result (λ found. at < found.1) }
 {
-    let colon = match mark(text, tokens, at, b':') {
-        Ok(colon) => colon,
-        Err(stop) => return Err(stop),
-    };
+    let colon = mark(text, tokens, at, b':')?;
     let first = past_blanks(tokens, colon.1);
-    let stand = match values(alloc, text, tokens, first, variables) {
-        Ok(stand) => stand,
-        Err(stop) => return Err(stop),
+    let stand = values(alloc, text, tokens, first, variables)?;
+    let important = importance(text, tokens, stand.1)?;
+    let spelling = Spelling {
+        name,
+        first: place_of(tokens, first),
+        stand: stand.0,
+        important: important.0,
     };
-    match importance(text, tokens, stand.1) {
-        Ok(important) => Ok((
-            Spelling {
-                name,
-                first: place_of(tokens, first),
-                stand: stand.0,
-                important: important.0,
-            },
-            important.1,
-        )),
-        Err(stop) => Err(stop),
-    }
+    Ok((spelling, important.1))
 }
 
 /// The number of the token behind the end of a body, where one ends there: a block at its `}`, which
@@ -181,13 +170,13 @@ fn ended(
             },
             at,
         )),
-        Err(ValueFault::NoMemory) => Err(Stop::Memory),
+        Err(ValueFault::NoMemory) => Err(Stop::NoMemory),
         Err(_) => Err(bad_value(spelling.first, at)),
     }
 }
 
 /// One declaration.
-#[tactic(auto, unfolding(crate::specs::Reads::declaration_at))]
+#[tactic(auto, unfolding(crate::specs::SheetReading::declaration_at))]
 pub fn declaration(
     alloc: Global,
     text: &[u8],
@@ -211,8 +200,6 @@ pub fn declaration(
     if !knows(token_bytes(text, name)) {
         return Err(met(SheetKind::UnknownProperty, at));
     }
-    match before_end(alloc, text, tokens, at + 1, variables, name) {
-        Ok(spelled) => ended(alloc, text, tokens, spelled.1, inline, spelled.0),
-        Err(stop) => Err(stop),
-    }
+    let spelled = before_end(alloc, text, tokens, at + 1, variables, name)?;
+    ended(alloc, text, tokens, spelled.1, inline, spelled.0)
 }

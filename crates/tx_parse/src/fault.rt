@@ -2,7 +2,7 @@
 ghost use Rattle.std.specs.Prelude.{◌≡◌, None};
 ghost use Rattle.tx_parse.specs.declared.fault.SheetFault.TheVariants.{NoMemory as no_memory};
 ghost use Rattle.tx_parse.specs.declared.fault.SheetKind.TheVariants.{Expected};
-ghost use Rattle.tx_parse.specs.declared.fault.Stop.TheVariants.{At};
+ghost use Rattle.tx_parse.specs.declared.fault.Stop.TheVariants.{At, NoMemory as stop_for_memory};
 
 use std::alloc::AllocError;
 use thiserror::Error;
@@ -81,7 +81,15 @@ pub enum Stop {
     /// A fault that is met at the token of this number.
     At { wrong: Wrong, at: usize },
     /// Want of memory.
-    Memory,
+    NoMemory,
+}
+
+impl From<AllocError> for Stop {
+    ghost from_gives = { λ _ stop. stop ≡ stop_for_memory };
+
+    fn from(_: AllocError) -> Stop {
+        Stop::NoMemory
+    }
 }
 
 /// A fault that is told of the token at which it is met.

@@ -1,24 +1,14 @@
 //! Lines and columns.
-ghost use Rattle.std.specs.Prelude.{◌≡◌, ◌<◌, ◌^◌, take};
+ghost use Rattle.std.specs.Prelude.{◌≡◌, ◌<◌, ◌^◌};
 ghost use Rattle.tx_parse.specs.Places.{line_of, column_of, line_feeds, characters_from, characters_with, begins_character, from_one};
+
+use tx_read::front;
 
 /// Whether a character begins so in UTF-8.
 fn begins_character(byte: u8) -> bool
     ensures { result ≡ begins_character byte }
 {
     !(byte >= 0x80 && byte <= 0xbf)
-}
-
-/// The bytes before a place.
-fn before(bytes: &[u8], place: u32) -> &[u8]
-    ensures { result.now ≡ take place bytes.now }
-{
-    if (place as usize) < bytes.len() {
-        let (front, _) = bytes.split_at(place as usize);
-        front
-    } else {
-        bytes
-    }
 }
 
 /// The number from 1 of what has so many before it.
@@ -36,13 +26,7 @@ fn from_one(count: usize) -> u32
 fn line_feeds(bytes: &[u8]) -> usize
     ensures { result ≡ line_feeds bytes.now }
 {
-    let mut count = 0;
-    for byte in bytes {
-        if *byte == b'\n' {
-            count += 1;
-        }
-    }
-    count
+    bytes.iter().filter(|byte| **byte == b'\n').count()
 }
 
 /// How many characters stand behind the last line feed, with this byte, where so many stood before.
@@ -74,12 +58,12 @@ fn characters(bytes: &[u8]) -> usize
 pub fn line_of(bytes: &[u8], place: u32) -> u32
     ensures { result ≡ line_of bytes.now place }
 {
-    from_one(line_feeds(before(bytes, place)))
+    from_one(line_feeds(front(bytes, place as usize)))
 }
 
 /// The column of the byte at a place, counted from 1 in characters.
 pub fn column_of(bytes: &[u8], place: u32) -> u32
     ensures { result ≡ column_of bytes.now place }
 {
-    from_one(characters(before(bytes, place)))
+    from_one(characters(front(bytes, place as usize)))
 }

@@ -1,17 +1,16 @@
 //! Rules: selectors and a block.
 ghost use Rattle.std.specs.Prelude.{◌≡◌};
 ghost use Rattle.tx_lex.specs.Lexemes.{lexemes_from};
-ghost use Rattle.tx_parse.specs.Answers.{GivesAs, GivesSame};
-ghost use Rattle.tx_parse.specs.Reads.{kind_of, spaced_selector_at, goes_on_at, selectors_at, rule_of, rule_at};
+ghost use Rattle.tx_parse.specs.Answers.{GivesAs};
+ghost use Rattle.tx_parse.specs.SheetReading.{kind_of, spaced_selector_at, goes_on_at, selectors_at, rule_of, rule_at};
 ghost use Rattle.tx_parse.specs.Seen.{defined_in, body_of, selectors_in};
 
 use crate::blocks::{Block, body};
 use crate::fault::{SheetKind, Stop, expected, met};
 use crate::sheet::{Declarations, Rule, Selectors};
-use crate::tokens::past_blanks;
 use crate::variables::Variables;
 use std::alloc::Global;
-use tx_lex::{Token, token_at};
+use tx_lex::{Token, past_blanks, token_at};
 use tx_select::{SelectKind, Selector, TokenFault, selector_at};
 
 // The most selectors of a rule.
@@ -28,27 +27,27 @@ fn kind_of(kind: SelectKind) -> SheetKind
 }
 
 /// A selector, with spaces and comments round it.
-#[tactic(auto, unfolding(crate::specs::Reads::spaced_selector_at))]
+#[tactic(auto, unfolding(crate::specs::SheetReading::spaced_selector_at))]
 fn spaced_selector(
     alloc: Global,
     text: &[u8],
     tokens: &[Token],
     at: usize,
 ) -> Result<(Selector, usize), Stop>
-    ensures { GivesSame text.now tokens.now result
+    ensures { GivesAs (λ a. a) text.now tokens.now result
         (spaced_selector_at (lexemes_from text.now tokens.now at)) }
 {
     match selector_at(alloc, text, tokens, past_blanks(tokens, at)) {
         Ok(found) => Ok(found),
         Err(TokenFault::At { kind, at }) => Err(met(kind_of(kind), at)),
-        Err(TokenFault::Memory) => Err(Stop::Memory),
+        Err(TokenFault::NoMemory) => Err(Stop::NoMemory),
     }
 }
 
 /// Whether further selectors come, behind a comma, or none, behind a `{`.
-#[tactic(auto, unfolding(crate::specs::Reads::goes_on_at))]
+#[tactic(auto, unfolding(crate::specs::SheetReading::goes_on_at))]
 fn goes_on(text: &[u8], tokens: &[Token], at: usize) -> Result<(bool, usize), Stop>
-    ensures { GivesSame text.now tokens.now result
+    ensures { GivesAs (λ a. a) text.now tokens.now result
         (goes_on_at (lexemes_from text.now tokens.now at)) }
 {
     let Some(first) = token_at(tokens, at) else {
@@ -64,7 +63,7 @@ fn goes_on(text: &[u8], tokens: &[Token], at: usize) -> Result<(bool, usize), St
 }
 
 /// The selectors of a rule and its `{`.
-#[tactic(auto, unfolding(crate::specs::Reads::selectors_at))]
+#[tactic(auto, unfolding(crate::specs::SheetReading::selectors_at))]
 fn selectors(
     alloc: Global,
     text: &[u8],
@@ -77,17 +76,11 @@ fn selectors(
     let mut found = Vec::new(alloc);
     let mut behind = at;
     for _count in 0..MOST_SELECTORS {
-        let selector = match spaced_selector(alloc, text, tokens, behind) {
-            Ok(selector) => selector,
-            Err(stop) => return Err(stop),
-        };
+        let selector = spaced_selector(alloc, text, tokens, behind)?;
         let Ok(()) = found.push(selector.0) else {
-            return Err(Stop::Memory);
+            return Err(Stop::NoMemory);
         };
-        let more = match goes_on(text, tokens, selector.1) {
-            Ok(more) => more,
-            Err(stop) => return Err(stop),
-        };
+        let more = goes_on(text, tokens, selector.1)?;
         behind = more.1;
         if !more.0 {
             return Ok((found, behind));
@@ -109,7 +102,7 @@ fn rule_of(selectors: Vec<Selector>, block: Block) -> (Rule, u32)
 }
 
 /// One rule, and how many declarations were written in it.
-#[tactic(auto, unfolding(crate::specs::Reads::rule_at))]
+#[tactic(auto, unfolding(crate::specs::SheetReading::rule_at))]
 pub fn rule(
     alloc: Global,
     text: &[u8],
@@ -117,15 +110,10 @@ pub fn rule(
     at: usize,
     variables: &Variables,
 ) -> Result<((Rule, u32), usize), Stop>
-    ensures { GivesSame text.now tokens.now result
+    ensures { GivesAs (λ a. a) text.now tokens.now result
         (rule_at (defined_in text.now variables.now) (lexemes_from text.now tokens.now at)) }
 {
-    let head = match selectors(alloc, text, tokens, at) {
-        Ok(head) => head,
-        Err(stop) => return Err(stop),
-    };
-    match body(alloc, text, tokens, head.1, false, variables) {
-        Ok(block) => Ok((rule_of(head.0, block.0), block.1)),
-        Err(stop) => Err(stop),
-    }
+    let head = selectors(alloc, text, tokens, at)?;
+    let block = body(alloc, text, tokens, head.1, false, variables)?;
+    Ok((rule_of(head.0, block.0), block.1))
 }

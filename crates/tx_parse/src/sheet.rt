@@ -7,7 +7,7 @@ ghost use Rattle.tx_parse.specs.Uses.{is_class, is_pseudo, in_sheet};
 use crate::uses::{Sought, in_rules};
 use std::marker::Model;
 use tx_select::Selector;
-use tx_tree::Name;
+use tx_text::{Items, Name};
 use tx_value::{Property, Value};
 
 /// A declaration: a property and its value, with `!important` or without.
@@ -65,67 +65,11 @@ impl Declaration {
     }
 }
 
-/// Declarations in their order, seen as a list.
-#[derive(Debug, Drop)]
-pub struct Declarations {
-    items: Vec<Declaration>,
-}
+/// Declarations in their order.
+pub type Declarations = Items<Declaration>;
 
-impl Model for Declarations {
-    ghost use Rattle.std.specs.Prelude.{List};
-    ghost use Rattle.tx_parse.specs.Values.{DeclarationValue};
-
-    ghost Value = { List DeclarationValue };
-
-    ghost view = { λ d. d.items.items };
-}
-
-impl Declarations {
-    /// The list of these declarations. It takes no memory.
-    pub fn of(items: Vec<Declaration>) -> Declarations
-        ensures { result ≡ items.items }
-    {
-        Declarations { items }
-    }
-
-    /// The declarations, the first one first.
-    pub fn as_slice(&self) -> &[Declaration]
-        ensures { result.now ≡ self.now }
-    {
-        self.items.as_slice()
-    }
-}
-
-/// Selectors in their order, seen as a list.
-#[derive(Debug, Drop)]
-pub struct Selectors {
-    items: Vec<Selector>,
-}
-
-impl Model for Selectors {
-    ghost use Rattle.std.specs.Prelude.{List};
-    ghost use Rattle.tx_select.specs.declared.value.Selector.{Selector};
-
-    ghost Value = { List Selector };
-
-    ghost view = { λ s. s.items.items };
-}
-
-impl Selectors {
-    /// The list of these selectors. It takes no memory.
-    pub fn of(items: Vec<Selector>) -> Selectors
-        ensures { result ≡ items.items }
-    {
-        Selectors { items }
-    }
-
-    /// The selectors, the first one first.
-    pub fn as_slice(&self) -> &[Selector]
-        ensures { result.now ≡ self.now }
-    {
-        self.items.as_slice()
-    }
-}
+/// Selectors in their order.
+pub type Selectors = Items<Selector>;
 
 /// A rule: declarations for all rows that one of its selectors selects.
 #[derive(Debug, Drop)]
@@ -167,36 +111,8 @@ impl Rule {
     }
 }
 
-/// Rules in their order, seen as a list.
-#[derive(Debug, Drop)]
-pub struct Rules {
-    items: Vec<Rule>,
-}
-
-impl Model for Rules {
-    ghost use Rattle.std.specs.Prelude.{List};
-    ghost use Rattle.tx_parse.specs.Values.{RuleValue};
-
-    ghost Value = { List RuleValue };
-
-    ghost view = { λ r. r.items.items };
-}
-
-impl Rules {
-    /// The list of these rules. It takes no memory.
-    pub fn of(items: Vec<Rule>) -> Rules
-        ensures { result ≡ items.items }
-    {
-        Rules { items }
-    }
-
-    /// The rules, the first one first.
-    pub fn as_slice(&self) -> &[Rule]
-        ensures { result.now ≡ self.now }
-    {
-        self.items.as_slice()
-    }
-}
+/// Rules in their order.
+pub type Rules = Items<Rule>;
 
 /// A stylesheet that was read, with the rules of the default sheet beside its own.
 #[derive(Debug, Drop)]

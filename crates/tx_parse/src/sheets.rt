@@ -1,22 +1,22 @@
 //! Variables and rules one behind another.
-ghost use Rattle.std.specs.Prelude.{◌≡◌, ◌≤◌, ◌<◌, length, drop, Some, IfOk, IfErr};
-ghost use Rattle.tx_lex.specs.Lexemes.{token_bytes, lexeme, lexemes, lexemes_from, IsNth};
+ghost use Rattle.std.specs.Prelude.{◌≡◌, ◌<◌, Some, IfOk};
+ghost use Rattle.tx_lex.specs.Lexemes.{lexemes_from, IsNth};
 ghost use Rattle.tx_parse.specs.Answers.{GivesAs, gathered_in};
 ghost use Rattle.tx_parse.specs.Grammar.{nothing_found, with_variable, with_rule};
-ghost use Rattle.tx_parse.specs.Reads.{definition_at, variable_in_sheet, rule_in_sheet, part_at, sheet_at};
+ghost use Rattle.tx_parse.specs.SheetReading.{definition_at, variable_in_sheet, rule_in_sheet, part_at, sheet_at};
 ghost use Rattle.tx_parse.specs.Seen.{defined_in, found_in};
 
 use crate::blocks::counted;
 use crate::fault::{SheetKind, Stop, expected, met};
 use crate::rules::rule;
 use crate::sheet::Rule;
-use crate::tokens::{mark, past_blanks};
+use crate::tokens::mark;
 use crate::values::values;
 use crate::variables::{Variables, variable_name};
 use std::alloc::{AllocError, Global};
-use tx_lex::{Token, TokenList, token_at};
+use tx_lex::{Token, TokenList, past_blanks, token_at};
 use tx_select::begins_compound;
-use tx_tree::Name;
+use tx_text::Name;
 
 // The most rules of a sheet.
 const MOST_RULES: usize = 10_000;
@@ -46,7 +46,7 @@ fn nothing_found(alloc: Global, text: &[u8]) -> Gathered
 }
 
 /// What stands behind the name of a variable that is defined.
-#[tactic(auto, unfolding(crate::specs::Reads::definition_at))]
+#[tactic(auto, unfolding(crate::specs::SheetReading::definition_at))]
 fn definition(
     alloc: Global,
     text: &[u8],
@@ -58,18 +58,10 @@ fn definition(
         (definition_at (defined_in text.now variables.now)
         (lexemes_from text.now tokens.now at)) }
 {
-    let colon = match mark(text, tokens, at, b':') {
-        Ok(colon) => colon,
-        Err(stop) => return Err(stop),
-    };
-    let stand = match values(alloc, text, tokens, colon.1, variables) {
-        Ok(stand) => stand,
-        Err(stop) => return Err(stop),
-    };
-    match mark(text, tokens, stand.1, b';') {
-        Ok(end) => Ok((stand.0, end.1)),
-        Err(stop) => Err(stop),
-    }
+    let colon = mark(text, tokens, at, b':')?;
+    let stand = values(alloc, text, tokens, colon.1, variables)?;
+    let end = mark(text, tokens, stand.1, b';')?;
+    Ok((stand.0, end.1))
 }
 
 /// What was found, with this variable.
@@ -89,19 +81,17 @@ fn with_variable(
         defined,
         written,
     } = found;
-    match variables.define(name, TokenList::of(stand)) {
-        Ok(variables) => Ok(Gathered {
-            variables,
-            rules,
-            defined: counted(defined, 1),
-            written,
-        }),
-        Err(error) => Err(error),
-    }
+    let variables = variables.define(name, TokenList::of(stand))?;
+    Ok(Gathered {
+        variables,
+        rules,
+        defined: counted(defined, 1),
+        written,
+    })
 }
 
 /// A variable, whose name has at most 64 bytes.
-#[tactic(auto, unfolding(crate::specs::Reads::variable_in_sheet))]
+#[tactic(auto, unfolding(crate::specs::SheetReading::variable_in_sheet))]
 fn variable(
     alloc: Global,
     text: &[u8],
@@ -117,14 +107,9 @@ fn variable(
     let Some(name) = variable_name(text, token) else {
         return Err(expected(at));
     };
-    let stand = match definition(alloc, text, tokens, at + 1, &found.variables) {
-        Ok(stand) => stand,
-        Err(stop) => return Err(stop),
-    };
-    match with_variable(text, found, name, stand.0) {
-        Ok(all) => Ok((all, stand.1)),
-        Err(_) => Err(Stop::Memory),
-    }
+    let stand = definition(alloc, text, tokens, at + 1, &found.variables)?;
+    let all = with_variable(text, found, name, stand.0)?;
+    Ok((all, stand.1))
 }
 
 /// What was found, with this rule, in which so many declarations were written.
@@ -151,7 +136,7 @@ fn with_rule(text: &[u8], found: Gathered, rule: (Rule, u32)) -> Result<Gathered
 }
 
 /// A rule, where fewer than 10,000 stand before it.
-#[tactic(auto, unfolding(crate::specs::Reads::rule_in_sheet))]
+#[tactic(auto, unfolding(crate::specs::SheetReading::rule_in_sheet))]
 fn rule_in_sheet(
     alloc: Global,
     text: &[u8],
@@ -165,18 +150,13 @@ fn rule_in_sheet(
     if found.rules.len() >= MOST_RULES {
         return Err(met(SheetKind::TooManyRules, at));
     }
-    let read = match rule(alloc, text, tokens, at, &found.variables) {
-        Ok(read) => read,
-        Err(stop) => return Err(stop),
-    };
-    match with_rule(text, found, read.0) {
-        Ok(all) => Ok((all, read.1)),
-        Err(_) => Err(Stop::Memory),
-    }
+    let read = rule(alloc, text, tokens, at, &found.variables)?;
+    let all = with_rule(text, found, read.0)?;
+    Ok((all, read.1))
 }
 
 /// A variable or a rule, behind what was found before.
-#[tactic(auto, unfolding(crate::specs::Reads::part_at))]
+#[tactic(auto, unfolding(crate::specs::SheetReading::part_at))]
 fn part(
     alloc: Global,
     text: &[u8],
@@ -206,13 +186,9 @@ pub fn sheet(alloc: Global, text: &[u8], tokens: &[Token]) -> Result<(Gathered, 
     let mut found = nothing_found(alloc, text);
     let mut behind = past_blanks(tokens, 0);
     while let Some(first) = token_at(tokens, behind) {
-        match part(alloc, text, tokens, behind, first, found) {
-            Ok(more) => {
-                found = more.0;
-                behind = past_blanks(tokens, more.1);
-            }
-            Err(stop) => return Err(stop),
-        }
+        let more = part(alloc, text, tokens, behind, first, found)?;
+        found = more.0;
+        behind = past_blanks(tokens, more.1);
     }
     Ok((found, behind))
 }

@@ -1,12 +1,9 @@
 use crate::{Sheet, SheetFault, read_inline, read_sheet};
 use std::alloc::Global;
 use std::test::Fail;
-use tx_tree::Name;
+use tx_expect::{each_line, expect};
+use tx_text::Name;
 use tx_value::{Ink, Value};
-
-fn expect(fine: bool, what: &'static str) -> Result<(), Fail> {
-    if fine { Ok(()) } else { Err(Fail::from(what)) }
-}
 
 /// A fault as a text.
 fn told(alloc: Global, fault: SheetFault) -> Result<String, Fail> {
@@ -43,36 +40,16 @@ fn inline_answer(alloc: Global, text: &str) -> Result<String, Fail> {
     }
 }
 
-/// Both parts of a line of a table, which has ` => ` between them.
-fn parts(line: &'static str) -> Result<(&'static str, &'static str), Fail> {
-    Ok(line.split_once(" => ").ok_or(line)?)
-}
-
-/// Each line has a sheet, in which `|` stands for a line feed, and what is read of it.
-fn read_lines(alloc: Global, table: &'static str) -> Result<(), Fail> {
-    for line in table.lines() {
-        let (text, wanted) = parts(line)?;
-        let sheet = text.replace(alloc, "|", "\n")?;
-        let found = answer(alloc, sheet.as_str().as_bytes())?;
-        expect(found.as_str() == wanted, line)?;
-    }
-    Ok(())
-}
-
-/// The same of inline texts.
-fn read_inline_lines(alloc: Global, table: &'static str) -> Result<(), Fail> {
-    for line in table.lines() {
-        let (text, wanted) = parts(line)?;
-        let found = inline_answer(alloc, text)?;
-        expect(found.as_str() == wanted, line)?;
-    }
-    Ok(())
+/// What is read of a sheet in which `|` stands for a line feed.
+fn line_answer(alloc: Global, text: &str) -> Result<String, Fail> {
+    let sheet = text.replace(alloc, "|", "\n")?;
+    answer(alloc, sheet.as_str().as_bytes())
 }
 
 #[test]
 fn sheets_are_read(rt: HostRuntime) -> Result<(), Fail> {
-    read_lines(
-        rt.alloc(),
+    let alloc = rt.alloc();
+    each_line(
         "\
 A{} => rules 1, declarations 0, variables 0\n\
 A { ; ; } => rules 1, declarations 0, variables 0\n\
@@ -99,13 +76,14 @@ $text: red; A { color: $text } => rules 1, declarations 1, variables 1\n\
 A { background: #FFF; } => rules 1, declarations 1, variables 0\n\
 A { layers: a b a; layer: a } => rules 1, declarations 2, variables 0\n\
 $ a: 1; => 1:1: BadByte",
+        |text| line_answer(alloc, text),
     )
 }
 
 #[test]
 fn what_may_not_stand_there_is_refused(rt: HostRuntime) -> Result<(), Fail> {
-    read_lines(
-        rt.alloc(),
+    let alloc = rt.alloc();
+    each_line(
         "\
 A => 1:2: Expected\n\
 A { => 1:4: Expected\n\
@@ -126,13 +104,14 @@ A..b {} => 1:3: Expected\n\
 A. b {} => 1:3: Expected\n\
 A: hover {} => 1:3: Expected\n\
 A/**/B {} => 1:6: Expected",
+        |text| line_answer(alloc, text),
     )
 }
 
 #[test]
 fn what_is_missing_is_told(rt: HostRuntime) -> Result<(), Fail> {
-    read_lines(
-        rt.alloc(),
+    let alloc = rt.alloc();
+    each_line(
         "\
 $a red; => 1:4: Expected\n\
 $a: ; => 1:5: Expected\n\
@@ -152,13 +131,14 @@ A { width: red ! } => 1:18: Expected\n\
 /* é */|  } => 2:3: Expected\n\
 } @ => 1:1: Expected\n\
 A B { width 1 } => 1:13: Expected",
+        |text| line_answer(alloc, text),
     )
 }
 
 #[test]
 fn each_kind_is_told_at_its_place(rt: HostRuntime) -> Result<(), Fail> {
-    read_lines(
-        rt.alloc(),
+    let alloc = rt.alloc();
+    each_line(
         "\
 $a: $b; => 1:5: UndefinedVariable\n\
 A { color: $a; } => 1:12: UndefinedVariable\n\
@@ -181,13 +161,14 @@ A { width: ( } => 1:12: BadValue\n\
 A { display: none block } => 1:14: BadValue\n\
 $a: 1 2 3; A { margin: $a } => 1:24: BadValue\n\
 A { color: transparent 5% } => 1:12: BadValue",
+        |text| line_answer(alloc, text),
     )
 }
 
 #[test]
 fn the_first_fault_is_told(rt: HostRuntime) -> Result<(), Fail> {
-    read_lines(
-        rt.alloc(),
+    let alloc = rt.alloc();
+    each_line(
         "\
 A { width: red; colour: 1 } => 1:12: BadValue\n\
 A { colour: 1; width: red } => 1:5: UnknownProperty\n\
@@ -214,13 +195,14 @@ A { width: 1234567890 @ } => 1:12: NumberTooLong\n\
 A { @ 1234567890 } => 1:5: BadByte\n\
 A { width: 123456789 } => rules 1, declarations 1, variables 0\n\
 A { width: 0.123456789012345678 } => rules 1, declarations 1, variables 0",
+        |text| line_answer(alloc, text),
     )
 }
 
 #[test]
 fn inline_texts_are_read(rt: HostRuntime) -> Result<(), Fail> {
-    read_inline_lines(
-        rt.alloc(),
+    let alloc = rt.alloc();
+    each_line(
         "\
 ; => 0\n\
 /**/   => 0\n\
@@ -247,6 +229,7 @@ width: 1 height: 2 => 1:16: Expected\n\
 } => 1:1: Expected\n\
 width: 1; } => 1:11: Expected\n\
 width: 1 ! => 1:11: Expected",
+        |text| inline_answer(alloc, text),
     )
 }
 
@@ -258,12 +241,9 @@ fn reads_bytes(alloc: Global, text: &[u8], wanted: &'static str) -> Result<(), F
 #[test]
 fn bytes_are_read_up_to_the_first_fault(rt: HostRuntime) -> Result<(), Fail> {
     let alloc = rt.alloc();
-    reads_bytes(alloc, b"", "rules 0, declarations 0, variables 0")?;
-    reads_bytes(
-        alloc,
-        b" /* a */ \n",
-        "rules 0, declarations 0, variables 0",
-    )?;
+    let nothing = "rules 0, declarations 0, variables 0";
+    reads_bytes(alloc, b"", nothing)?;
+    reads_bytes(alloc, b" /* a */ \n", nothing)?;
     expect(inline_answer(alloc, "")?.as_str() == "0", "an empty text")?;
     reads_bytes(alloc, b"A { } \xff", "1:7: BadByte")?;
     reads_bytes(alloc, b"/* \xff */", "1:4: BadByte")?;
@@ -274,49 +254,23 @@ fn bytes_are_read_up_to_the_first_fault(rt: HostRuntime) -> Result<(), Fail> {
     reads_bytes(alloc, b"$a:/* \xff */", "1:7: BadByte")
 }
 
-/// A text so many times, between two others.
-fn repeated(
-    alloc: Global,
-    front: &str,
-    text: &str,
-    times: u32,
-    back: &str,
-) -> Result<String, Fail> {
-    let mut all = String::from_str(alloc, front)?;
-    for _ in 0..times {
-        all.push_str(text)?;
-    }
-    all.push_str(back)?;
-    Ok(all)
-}
-
-fn reads_repeated(
-    alloc: Global,
-    front: &str,
-    text: &str,
-    times: u32,
-    back: &str,
-    wanted: &'static str,
-) -> Result<(), Fail> {
-    let all = repeated(alloc, front, text, times, back)?;
-    let found = answer(alloc, all.as_str().as_bytes())?;
-    expect(found.as_str() == wanted, wanted)
-}
-
-/// A line has a text, another that is repeated, how often, and a last one, with `|` between them,
-/// then ` => ` and what is read of all.
-fn reads_limit(alloc: Global, line: &'static str) -> Result<(), Fail> {
-    let (all, wanted) = parts(line)?;
-    let (front, rest) = all.split_once("|").ok_or(line)?;
-    let (text, rest) = rest.split_once("|").ok_or(line)?;
-    let (times, back) = rest.split_once("|").ok_or(line)?;
-    let times: u32 = times.parse().map_err(|_| line)?;
-    reads_repeated(alloc, front, text, times, back, wanted)
+/// What is read of a text, another that is repeated, how often, and a last one, with `|` between
+/// them.
+fn limit_answer(alloc: Global, all: &str) -> Result<String, Fail> {
+    let (front, rest) = all.split_once("|").ok_or("no text")?;
+    let (text, rest) = rest.split_once("|").ok_or("no times")?;
+    let (times, back) = rest.split_once("|").ok_or("no end")?;
+    let times: usize = times.parse().map_err(|_| "no number")?;
+    let middle = text.repeat(alloc, times)?;
+    let sheet = format!(in alloc; "{front}{}{back}", middle.as_str())?;
+    answer(alloc, sheet.as_str().as_bytes())
 }
 
 #[test]
 fn limits_are_kept(rt: HostRuntime) -> Result<(), Fail> {
-    let table = "\
+    let alloc = rt.alloc();
+    each_line(
+        "\
 A { text-style:| bold|64|} => rules 1, declarations 1, variables 0\n\
 A { text-style:| bold|65|} => 1:337: ValueTooLong\n\
 $a: 1| 1|63|; => rules 0, declarations 0, variables 1\n\
@@ -332,27 +286,13 @@ A| A|16|{} => 1:33: Expected\n\
 $|a|64|: 1; => rules 0, declarations 0, variables 1\n\
 $|a|65|: 1; => 1:1: Expected\n\
 A { color: $|a|65|; } => 1:12: UndefinedVariable\n\
-A { layer: |a|65|; } => 1:12: BadValue";
-    for line in table.lines() {
-        reads_limit(rt.alloc(), line)?;
-    }
-    Ok(())
-}
-
-#[test]
-fn a_sheet_has_at_most_ten_thousand_rules(rt: HostRuntime) -> Result<(), Fail> {
-    let alloc = rt.alloc();
-    reads_repeated(
-        alloc,
-        "",
-        "A{}\n",
-        10_000,
-        " $a: 1;",
-        "rules 10000, declarations 0, variables 1",
-    )?;
-    reads_repeated(alloc, "", "A{}\n", 10_000, " .1", "10001:2: Expected")?;
-    reads_repeated(alloc, "", "A{}\n", 10_000, " ..", "10001:2: TooManyRules")?;
-    reads_repeated(alloc, "", "A{}\n", 10_001, "", "10001:1: TooManyRules")
+A { layer: |a|65|; } => 1:12: BadValue\n\
+|A{}|10000| $a: 1; => rules 10000, declarations 0, variables 1\n\
+|A{}|10000| .1 => 1:30002: Expected\n\
+|A{}|10000| .. => 1:30002: TooManyRules\n\
+|A{}|10001| => 1:30001: TooManyRules",
+        |line| limit_answer(alloc, line),
+    )
 }
 
 /// How much red a value has, where it is a fixed colour.

@@ -1,13 +1,13 @@
 //! Sheets and inline texts.
-ghost use Rattle.std.specs.Prelude.{◌≡◌, ◌<◌, ◌^◌, ◌++◌, [], List, length, IfOk, IfErr, Ok};
+ghost use Rattle.std.specs.Prelude.{◌≡◌, ◌<◌, ◌^◌, ◌++◌, [], length, IfOk, Ok};
+ghost use Rattle.tx_read.specs.Answer.{Gives};
 ghost use Rattle.tx_lex.specs.Lexemes.{lexemes, lexemes_from};
 ghost use Rattle.tx_lex.specs.Lexing.{lexed};
-ghost use Rattle.tx_parse.specs.Answers.{GivesText};
-ghost use Rattle.tx_parse.specs.Default.{default_rules, sheet_value, GivesSheet, IsReadAs, IsInlineReadAs};
+ghost use Rattle.tx_parse.specs.Answers.{judged_answer};
+ghost use Rattle.tx_parse.specs.Default.{default_rules, sheet_value};
 ghost use Rattle.tx_parse.specs.Grammar.{Body, Found};
 ghost use Rattle.tx_parse.specs.Seen.{body_of, found_in};
-ghost use Rattle.tx_parse.specs.Texts.{last_comment, tokens_of, kind_of, of_lexer, reported, told, sheet_of, inline_of, IsSheetText, IsInlineText, GivesInline};
-ghost use Rattle.tx_parse.specs.declared.fault.SheetFault.TheVariants.{NoMemory};
+ghost use Rattle.tx_parse.specs.Texts.{last_comment, tokens_of, kind_of, fault_at, of_lexer, reported, located, told, sheet_of, inline_of, IsSheetText, IsInlineText};
 
 use crate::blocks::{Block, body};
 use crate::default::DEFAULT_SHEET;
@@ -49,13 +49,9 @@ fn all_tokens(alloc: Global, bytes: &[u8]) -> Result<AllTokens, AllocError>
     ensures tokens { IfOk result (λ all. lexemes bytes.now all.tokens.items ≡ tokens_of bytes.now) }
     ensures fault { IfOk result (λ all. all.fault ≡ (lexed bytes.now).fault) }
 {
-    let Ok(Scanned { tokens, fault }) = scan(alloc, bytes) else {
-        return Err(AllocError);
-    };
-    match with_comment(tokens, fault) {
-        Ok(tokens) => Ok(AllTokens { tokens, fault }),
-        Err(error) => Err(error),
-    }
+    let Scanned { tokens, fault } = scan(alloc, bytes)?;
+    let tokens = with_comment(tokens, fault)?;
+    Ok(AllTokens { tokens, fault })
 }
 
 /// What is wrong in a sheet where this is wrong in a token.
@@ -70,8 +66,8 @@ fn kind_of(kind: LexKind) -> SheetKind
 }
 
 /// A fault of the byte at a place.
-fn told(bytes: &[u8], kind: SheetKind, place: u32) -> SheetFault
-    ensures { result ≡ told bytes.now (kind, place) }
+fn fault_at(bytes: &[u8], kind: SheetKind, place: u32) -> SheetFault
+    ensures { result ≡ fault_at bytes.now (kind, place) }
 {
     SheetFault::Text {
         line: line_of(bytes, place),
@@ -82,21 +78,21 @@ fn told(bytes: &[u8], kind: SheetKind, place: u32) -> SheetFault
 
 /// A byte that is at fault.
 fn of_lexer(bytes: &[u8], fault: Fault) -> SheetFault
-    ensures { result ≡ told bytes.now (of_lexer fault) }
+    ensures { result ≡ fault_at bytes.now (of_lexer fault) }
 {
-    told(bytes, kind_of(fault.kind), fault.place)
+    fault_at(bytes, kind_of(fault.kind), fault.place)
 }
 
 /// A fault that is met where the tokens run out.
 fn at_end(bytes: &[u8], fault: Option<Fault>, wrong: Wrong) -> SheetFault
     requires { length bytes.now < 2 ^ 32 }
-    ensures { result ≡ told bytes.now (reported bytes.now fault (wrong, [])) }
+    ensures { result ≡ fault_at bytes.now (reported bytes.now fault (wrong, [])) }
 {
     match fault {
         Some(fault) => of_lexer(bytes, fault),
         None => match wrong.place {
-            Some(place) => told(bytes, wrong.kind, place),
-            None => told(bytes, wrong.kind, bytes.len() as u32),
+            Some(place) => fault_at(bytes, wrong.kind, place),
+            None => fault_at(bytes, wrong.kind, bytes.len() as u32),
         },
     }
 }
@@ -111,14 +107,35 @@ fn refusal(
 ) -> SheetFault
     requires { length bytes.now < 2 ^ 32 }
     ensures { result ≡
-        told bytes.now (reported bytes.now fault (wrong, lexemes_from bytes.now tokens.now at)) }
+        fault_at bytes.now (reported bytes.now fault (wrong, lexemes_from bytes.now tokens.now at)) }
 {
     let Some(token) = token_at(tokens, at) else {
         return at_end(bytes, fault, wrong);
     };
     match wrong.place {
-        Some(place) => told(bytes, wrong.kind, place),
-        None => told(bytes, wrong.kind, token.from),
+        Some(place) => fault_at(bytes, wrong.kind, place),
+        None => fault_at(bytes, wrong.kind, token.from),
+    }
+}
+
+/// The answer of a whole text, by what the reader of its tokens answered: all tokens were read, and
+/// then no byte is at fault.
+fn judged_answer<T: Drop>(
+    bytes: &[u8],
+    tokens: &[Token],
+    fault: Option<Fault>,
+    read: Result<(T, usize), Stop>,
+) -> Result<T, SheetFault>
+    requires { length bytes.now < 2 ^ 32 }
+    ensures { result ≡ judged_answer bytes.now tokens.now fault read }
+{
+    match read {
+        Ok(found) => match fault {
+            Some(fault) => Err(of_lexer(bytes, fault)),
+            None => Ok(found.0),
+        },
+        Err(Stop::At { wrong, at }) => Err(refusal(bytes, tokens, fault, wrong, at)),
+        Err(Stop::NoMemory) => Err(SheetFault::NoMemory),
     }
 }
 
@@ -126,43 +143,28 @@ fn refusal(
 #[tactic(auto, unfolding(crate::specs::Texts::sheet_of))]
 fn sheet_text(alloc: Global, bytes: &[u8]) -> Result<Gathered, SheetFault>
     requires { length bytes.now < 2 ^ 32 }
-    ensures { GivesText (found_in bytes.now) bytes.now result (sheet_of bytes.now) }
+    ensures { Gives (found_in bytes.now) told result (located (λ found. found) bytes.now (sheet_of bytes.now)) }
 {
-    let Ok(all) = all_tokens(alloc, bytes) else {
-        return Err(SheetFault::NoMemory);
-    };
-    match sheet(alloc, bytes, all.tokens.as_slice()) {
-        Ok(found) => match all.fault {
-            Some(fault) => Err(of_lexer(bytes, fault)),
-            None => Ok(found.0),
-        },
-        Err(Stop::At { wrong, at }) => {
-            Err(refusal(bytes, all.tokens.as_slice(), all.fault, wrong, at))
-        }
-        Err(Stop::Memory) => Err(SheetFault::NoMemory),
-    }
+    let AllTokens { tokens, fault } = all_tokens(alloc, bytes)?;
+    let tokens = tokens.as_slice();
+    judged_answer(bytes, tokens, fault, sheet(alloc, bytes, tokens))
 }
 
 /// What the bytes of an inline text have.
-#[tactic(auto, unfolding(crate::specs::Texts::inline_of, crate::specs::Reads::inline_at, crate::specs::Seen::defined_in))]
+#[tactic(auto, unfolding(crate::specs::Texts::inline_of, crate::specs::SheetReading::inline_at, crate::specs::Seen::defined_in))]
 fn inline_text(alloc: Global, bytes: &[u8]) -> Result<Block, SheetFault>
     requires { length bytes.now < 2 ^ 32 }
-    ensures { GivesText body_of bytes.now result (inline_of bytes.now) }
+    ensures { Gives body_of told result (located (λ body. body) bytes.now (inline_of bytes.now)) }
 {
-    let Ok(all) = all_tokens(alloc, bytes) else {
-        return Err(SheetFault::NoMemory);
-    };
+    let AllTokens { tokens, fault } = all_tokens(alloc, bytes)?;
+    let tokens = tokens.as_slice();
     let variables = Variables::none(alloc);
-    match body(alloc, bytes, all.tokens.as_slice(), 0, true, &variables) {
-        Ok(found) => match all.fault {
-            Some(fault) => Err(of_lexer(bytes, fault)),
-            None => Ok(found.0),
-        },
-        Err(Stop::At { wrong, at }) => {
-            Err(refusal(bytes, all.tokens.as_slice(), all.fault, wrong, at))
-        }
-        Err(Stop::Memory) => Err(SheetFault::NoMemory),
-    }
+    judged_answer(
+        bytes,
+        tokens,
+        fault,
+        body(alloc, bytes, tokens, 0, true, &variables),
+    )
 }
 
 /// The rules of the default sheet.
@@ -180,21 +182,12 @@ fn defaults(alloc: Global) -> Result<Rules, AllocError>
 /// The sheet that bytes are.
 fn sheet_with_defaults(alloc: Global, bytes: &[u8]) -> Result<Sheet, SheetFault>
     requires { length bytes.now < 2 ^ 32 }
-    ensures { GivesSheet bytes.now result }
+    ensures { Gives (λ sheet. sheet) told result (located sheet_value bytes.now (sheet_of bytes.now)) }
 {
-    let found = match sheet_text(alloc, bytes) {
-        Ok(found) => found,
-        Err(fault) => return Err(fault),
-    };
-    match defaults(alloc) {
-        Ok(defaults) => Ok(Sheet::of(
-            Rules::of(found.rules),
-            found.defined,
-            found.written,
-            defaults,
-        )),
-        Err(_) => Err(SheetFault::NoMemory),
-    }
+    let found = sheet_text(alloc, bytes)?;
+    let defaults = defaults(alloc)?;
+    let rules = Rules::of(found.rules);
+    Ok(Sheet::of(rules, found.defined, found.written, defaults))
 }
 
 /// Reads a stylesheet of fewer than 2^32 bytes. The default sheet's rules stand beside its own.
@@ -205,9 +198,10 @@ pub fn read_sheet(alloc: Global, bytes: &[u8]) -> Result<Sheet, SheetFault>
     ensures found { IfOk result (λ sheet. (found : Found) × (sheet ≡
         sheet_value found) × IsSheetText bytes.now found) }
     // What is in the grammar is read, unless memory is wanting.
-    ensures only { (found : Found) → IsSheetText bytes.now found → IsReadAs found result }
-    // The answer is what the definition reads, with the place of the first fault.
-    ensures exact { GivesSheet bytes.now result }
+    ensures only { (found : Found) → IsSheetText bytes.now found →
+        Gives (λ sheet. sheet) told result (Ok (sheet_value found)) }
+    // The answer is what the definition reads, with the line and the column of the first fault.
+    ensures exact { Gives (λ sheet. sheet) told result (located sheet_value bytes.now (sheet_of bytes.now)) }
 {
     sheet_with_defaults(alloc, bytes)
 }
@@ -215,12 +209,11 @@ pub fn read_sheet(alloc: Global, bytes: &[u8]) -> Result<Sheet, SheetFault>
 /// The declarations that bytes are.
 fn inline_declarations(alloc: Global, bytes: &[u8]) -> Result<Vec<Declaration>, SheetFault>
     requires { length bytes.now < 2 ^ 32 }
-    ensures { GivesInline bytes.now result }
+    ensures { Gives (λ declarations. declarations.items) told result
+        (located (λ body. body.declarations) bytes.now (inline_of bytes.now)) }
 {
-    match inline_text(alloc, bytes) {
-        Ok(block) => Ok(block.declarations),
-        Err(fault) => Err(fault),
-    }
+    let block = inline_text(alloc, bytes)?;
+    Ok(block.declarations)
 }
 
 /// Reads declarations without braces, in which only the variables of the theme are defined. The
@@ -229,8 +222,10 @@ pub fn read_inline(alloc: Global, text: &str) -> Result<Vec<Declaration>, SheetF
     requires { length text.now < 2 ^ 32 }
     ensures found { IfOk result (λ declarations. (body : Body) × (declarations.items ≡
         body.declarations) × IsInlineText text.now body) }
-    ensures only { (body : Body) → IsInlineText text.now body → IsInlineReadAs body result }
-    ensures exact { GivesInline text.now result }
+    ensures only { (body : Body) → IsInlineText text.now body →
+        Gives (λ declarations. declarations.items) told result (Ok body.declarations) }
+    ensures exact { Gives (λ declarations. declarations.items) told result
+        (located (λ body. body.declarations) text.now (inline_of text.now)) }
 {
     inline_declarations(alloc, text.as_bytes())
 }

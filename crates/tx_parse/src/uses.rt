@@ -5,7 +5,7 @@ ghost use Rattle.tx_parse.specs.Uses.{is_sought, in_compound, in_selector, in_ru
 
 use crate::sheet::{Rule, Rules};
 use tx_select::{Compound, Part, Selector};
-use tx_tree::Name;
+use tx_text::Name;
 
 /// What is looked for in selectors.
 #[derive(Clone, Copy, Debug)]

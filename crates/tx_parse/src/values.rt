@@ -1,16 +1,16 @@
 //! The values of declarations and of variables.
-ghost use Rattle.std.specs.Prelude.{◌≡◌, ◌<◌, ◌≤◌, ◌+◌, [], length, IfOk, Some};
+ghost use Rattle.std.specs.Prelude.{◌<◌, ◌≤◌, ◌+◌, [], IfOk, Some};
 ghost use Rattle.tx_lex.specs.Lexemes.{lexeme, lexemes, lexemes_from, IsNth};
 ghost use Rattle.tx_parse.specs.Answers.{GivesAs, gathered_in};
-ghost use Rattle.tx_parse.specs.Reads.{added, at_least_one, values_from, values_at};
+ghost use Rattle.tx_parse.specs.SheetReading.{added, values_from, values_at};
 ghost use Rattle.tx_parse.specs.Seen.{defined_in};
 ghost use Rattle.tx_parse.specs.Variables.{stands_for};
 
 use crate::fault::{SheetKind, Stop, expected, met};
-use crate::tokens::{is_value, past_blanks};
+use crate::tokens::is_value;
 use crate::variables::{Variables, stand};
 use std::alloc::Global;
-use tx_lex::{Token, token_at};
+use tx_lex::{Token, past_blanks, token_at};
 
 // The most values of a declaration or of a variable.
 const MOST_VALUES: usize = 64;
@@ -37,10 +37,8 @@ fn with_value(
         return Err(met(SheetKind::ValueTooLong, at));
     }
     let mut all = found;
-    match all.extend_from_slice(more) {
-        Ok(()) => Ok((all, at + 1)),
-        Err(_) => Err(Stop::Memory),
-    }
+    all.extend_from_slice(more)?;
+    Ok((all, at + 1))
 }
 
 /// What values stand for, as far as tokens of values go on.
@@ -62,19 +60,15 @@ fn values_as_far(
         if !is_value(token.kind) {
             return Ok((found, behind));
         }
-        match with_value(text, tokens, behind, token, variables, found) {
-            Ok(more) => {
-                found = more.0;
-                behind = past_blanks(tokens, more.1);
-            }
-            Err(stop) => return Err(stop),
-        }
+        let more = with_value(text, tokens, behind, token, variables, found)?;
+        found = more.0;
+        behind = past_blanks(tokens, more.1);
     }
     Ok((found, behind))
 }
 
 /// What one or more values stand for.
-#[tactic(auto, unfolding(crate::specs::Reads::values_at))]
+#[tactic(auto, unfolding(crate::specs::SheetReading::values_at))]
 pub fn values(
     alloc: Global,
     text: &[u8],
@@ -86,14 +80,9 @@ pub fn values(
         (values_at (defined_in text.now variables.now) (lexemes_from text.now tokens.now at)) }
     ensures behind { IfOk result (λ found. at ≤ found.1) }
 {
-    match values_as_far(alloc, text, tokens, at, variables) {
-        Ok(found) => {
-            if found.0.is_empty() {
-                Err(expected(found.1))
-            } else {
-                Ok(found)
-            }
-        }
-        Err(stop) => Err(stop),
+    let found = values_as_far(alloc, text, tokens, at, variables)?;
+    if found.0.is_empty() {
+        return Err(expected(found.1));
     }
+    Ok(found)
 }

@@ -4,17 +4,16 @@ ghost use Rattle.std.specs.Option.{SomeIff};
 ghost use Rattle.std.specs.Str.{bytes_eq};
 ghost use Rattle.indexmap.specs.IndexMap.{insert_entry};
 ghost use Rattle.tx_lex.specs.Lexemes.{token_bytes, lexeme, lexemes, IsNth};
-ghost use Rattle.tx_tree.specs.Name.{IsName};
+ghost use Rattle.tx_text.specs.Name.{IsName};
 ghost use Rattle.tx_parse.specs.Seen.{defined_in};
 ghost use Rattle.tx_parse.specs.Variables.{latest, stands_for};
 
-use crate::tokens::alone;
 use indexmap::IndexMap;
 use std::alloc::{AllocError, Global};
 use std::marker::Model;
-use tx_lex::{Token, TokenList, behind, token_bytes};
-use tx_select::name_of;
-use tx_tree::Name;
+use tx_lex::{Token, TokenList, token_bytes};
+use tx_read::{behind, front};
+use tx_text::Name;
 use tx_value::theme_name_of;
 
 /// The variables that a sheet has defined so far, each with the tokens of its latest definition.
@@ -66,7 +65,7 @@ pub fn variable_name(text: &[u8], token: Token) -> Option<Name>
     ensures { SomeIff result
         (IsName (drop 1 (token_bytes text.now token))) (drop 1 (token_bytes text.now token)) }
 {
-    name_of(behind(token_bytes(text, token), 1))
+    Name::of_bytes(behind(token_bytes(text, token), 1))
 }
 
 /// What the token of this number stands for in values.
@@ -82,8 +81,9 @@ pub fn stand<'a>(
     ensures { option_map (lexemes text.now) (option_copied result) ≡
         stands_for (defined_in text.now variables.now) (lexeme text.now token) }
 {
+    let itself = front(behind(tokens, at), 1);
     if !token.kind.is_variable() {
-        return Some(alone(tokens, at));
+        return Some(itself);
     }
     let Some(name) = variable_name(text, token) else {
         return None;
@@ -92,7 +92,7 @@ pub fn stand<'a>(
         return Some(list.as_slice());
     }
     if theme_name_of(name.as_bytes()).is_some() {
-        return Some(alone(tokens, at));
+        return Some(itself);
     }
     None
 }

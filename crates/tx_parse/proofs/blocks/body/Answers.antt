@@ -19,9 +19,9 @@ loop-end-init c = (
 
 pub loop-end-preserved : goal.loop-end-preserved
 loop-end-preserved c = (
-  body_next c.args.inline (defined_in c.args.text.now c.args.variables.now) (body_of c.loop-end.found) (body_of c.in-Ok.more.0) (lexemes_from c.args.text.now c.args.tokens.now c.loop-end.behind) _
-      (lexemes_from c.args.text.now c.args.tokens.now c.in-Ok.more.1) _ (length c.args.tokens.now - c.loop-end.behind) (length c.args.tokens.now - c.past_blanks-behind-in-Ok.result)
-      c.loop-end.invariant.0 (c.in_default.ensures.ends c.args.text.now) c.in-Ok.ensures.gives (c.past_blanks-behind-in-Ok.ensures.gives c.args.text.now)
-      (fewer (length c.args.tokens.now) c.loop-end.behind c.in-Ok.more.1 c.past_blanks-behind-in-Ok.result c.in-Ok.ensures.behind.0 c.in-Ok.ensures.behind.1 c.past_blanks-behind-in-Ok.ensures.behind),
-  farther c.loop-end.invariant.1 c.in-Ok.ensures.behind.0 c.past_blanks-behind-in-Ok.ensures.behind,
+  body_next c.args.inline (defined_in c.args.text.now c.args.variables.now) (body_of c.loop-end.found) (body_of c.in_ok-more.more.0) (lexemes_from c.args.text.now c.args.tokens.now c.loop-end.behind) _
+      (lexemes_from c.args.text.now c.args.tokens.now c.in_ok-more.more.1) _ (length c.args.tokens.now - c.loop-end.behind) (length c.args.tokens.now - c.past_blanks-behind-in-loop-end.result)
+      c.loop-end.invariant.0 (c.in_default.ensures.ends c.args.text.now) c.in_ok-more.ensures.gives (c.past_blanks-behind-in-loop-end.ensures.gives c.args.text.now)
+      (fewer (length c.args.tokens.now) c.loop-end.behind c.in_ok-more.more.1 c.past_blanks-behind-in-loop-end.result c.in_ok-more.ensures.behind.0 c.in_ok-more.ensures.behind.1 c.past_blanks-behind-in-loop-end.ensures.behind),
+  farther c.loop-end.invariant.1 c.in_ok-more.ensures.behind.0 c.past_blanks-behind-in-loop-end.ensures.behind,
 )

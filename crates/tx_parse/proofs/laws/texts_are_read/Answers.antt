@@ -1,4 +1,4 @@
-use Rattle.tx_parse.proofs.WholeTexts.{sheet_text, text_sheet, inline_text, text_inline}
+use Rattle.tx_parse.proofs.lemmas.TextLaws.{sheet_text, text_sheet, inline_text, text_inline}
 use Rattle.tx_parse.proofs.laws.texts_are_read.Goals as goal
 
 pub returns : goal.returns

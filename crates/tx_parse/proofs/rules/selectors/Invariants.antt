@@ -1,6 +1,6 @@
 use Rattle.std.proofs.Common.{◌≡◌, ◌-◌}
 use Rattle.tx_lex.specs.Lexemes.{lexemes_from}
-use Rattle.tx_parse.specs.Reads.{selectors_from, selectors_at}
+use Rattle.tx_parse.specs.SheetReading.{selectors_from, selectors_at}
 use Rattle.tx_parse.proofs.rules.selectors.Given as goal
 
 -- the selectors so far, and those from here on, are the selectors in all

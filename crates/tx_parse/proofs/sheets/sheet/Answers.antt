@@ -9,7 +9,7 @@ loop-first-init c = sheet_init _ _ _ c.nothing_found-found.ensures (c.past_blank
 
 pub loop-first-preserved : goal.loop-first-preserved
 loop-first-preserved c = sheet_next (found_in c.args.text.now c.loop-first.found) _ _ _ _ _ (lexeme c.args.text.now c.in-Some.first) (lexemes_from c.args.text.now c.args.tokens.now (c.loop-first.behind + 1))
-    c.loop-first.invariant (ap (lexemes c.args.text.now) c.in-Some.ensures.0) c.in-Ok.ensures (c.past_blanks-behind-in-Ok.ensures.gives c.args.text.now)
+    c.loop-first.invariant (ap (lexemes c.args.text.now) c.in-Some.ensures.0) c.in_ok-more.ensures (c.past_blanks-behind-in-Some.ensures.gives c.args.text.now)
 
 pub loop-first-smaller : goal.loop-first-smaller
-loop-first-smaller c = fewer_left c.args.text.now c.args.tokens.now (found_in c.args.text.now c.loop-first.found) _ c.loop-first.behind c.in-Ok.more.1 c.past_blanks-behind-in-Ok.result c.in-Ok.ensures (c.past_blanks-behind-in-Ok.ensures.gives c.args.text.now)
+loop-first-smaller c = fewer_left c.args.text.now c.args.tokens.now (found_in c.args.text.now c.loop-first.found) _ c.loop-first.behind c.in_ok-more.more.1 c.past_blanks-behind-in-Some.result c.in_ok-more.ensures (c.past_blanks-behind-in-Some.ensures.gives c.args.text.now)

@@ -2,10 +2,11 @@
 use Rattle.std.specs.Prelude.{ℕ, zero, suc, ◌+◌, Bool, true, false, not, ◌&&◌, ◌||◌, nat_lt, List, [], ◌∷◌, ◌++◌, length, drop, Option, Some, None, Result, Ok, Err, if◌then◌else◌, codes}
 use Rattle.std.specs.Str.{bytes_eq}
 use Rattle.tx_read.specs.Reading.{Reader, ◌>>=◌, in_turn}
+use Rattle.tx_lex.specs.Blanks.{past_blanks}
 use Rattle.tx_lex.specs.Lexemes.{Lexeme, is_blank, is_name_token, is_variable, is_mark, first_is}
-use Rattle.tx_tree.specs.Name.{is_name}
+use Rattle.tx_text.specs.Name.{is_name}
 use Rattle.tx_select.specs.Lexemes.{begins_compound}
-use Rattle.tx_select.specs.Reads.{selector_at}
+use Rattle.tx_select.specs.SelectorReading.{selector_at}
 use Rattle.tx_select.specs.declared.fault.SelectKind.{SelectKind}
 use Rattle.tx_select.specs.declared.fault.SelectKind.TheVariants as select
 use Rattle.tx_select.specs.declared.value.Compound.{Compound}
@@ -38,11 +39,6 @@ abbrev pub give : {A : Type 0} → A → Reads A
 give a ts = Ok (a, ts)
 
 -- ---- single tokens
-
--- what is behind spaces and comments
-abbrev pub past_blanks : List Lexeme → List Lexeme
-past_blanks [] = []
-past_blanks (t ∷ ts) = if is_blank t.kind then past_blanks ts else t ∷ ts
 
 abbrev pub token_at : (Lexeme → Bool) → Reads Lexeme
 token_at test [] = expected []
