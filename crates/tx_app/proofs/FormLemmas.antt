@@ -1,9 +1,10 @@
 -- What the pieces of a line say of it.
-use Rattle.std.proofs.Common.{◌≡◌, ℕ, Bool, true, false, cond, List, [], ◌∷◌, Option, None, Some, refl, eqb, arith, ◌&&◌, ◌∙◌, ap, sym, Result, Ok, Err, ◌++◌, ◌+◌, append_assoc, option_map, map}
+use Rattle.std.proofs.Common.{◌≡◌, ℕ, true, false, cond, List, [], ◌∷◌, Option, None, Some, refl, eqb, arith, ◌&&◌, ◌∙◌, ap, sym, Result, Ok, Err, ◌++◌, ◌+◌, append_assoc, option_map, map}
 use Rattle.tx_read.specs.Pieces.{pieces, onto}
 use Rattle.std.specs.List.{list_all, AllPass, AllByRecursion}
 use Rattle.std.proofs.lemmas.List.Sums.{AllPass-from_list_all}
 use Rattle.tx_cell.specs.Plain.{is_printable}
+use Rattle.std.proofs.lemmas.Bool.{and_parts}
 use Rattle.std.proofs.lemmas.Bool.Decides.{nat_tests}
 use Rattle.tx_app.specs.declared.sheet_form.Declaration.{Declaration}
 use Rattle.tx_app.specs.declared.sheet_form.Look.{Look}
@@ -12,14 +13,6 @@ use Rattle.tx_app.specs.SheetForm.{declaration, declarations, declared, joined, 
 use Rattle.tx_tree.specs.Row.{plain}
 use Rattle.tx_tree.specs.declared.row.Row.{Row}
 use Rattle.tx_app.specs.TreeForm.{is_text_byte, is_empty, is_bare, static_text, statics, with_text, below_screen}
-
-and_true_left : (a b : Bool) → a && b ≡ true → a ≡ true
-and_true_left true b h = refl
-and_true_left false b h = h
-
-and_true_right : (a b : Bool) → a && b ≡ true → b ≡ true
-and_true_right true b h = h
-and_true_right false b h = absurd (cc)
 
 -- ---- rows of a tree
 
@@ -134,7 +127,7 @@ text_byte_is_printable byte h = grind (arith, nat_tests)
 
 list_all_printable : (text : List ℕ) → list_all is_text_byte text ≡ true → list_all is_printable text ≡ true
 list_all_printable [] h = refl
-list_all_printable (byte ∷ text) h = rw (text_byte_is_printable byte (and_true_left _ _ h)) (list_all_printable text (and_true_right _ _ h))
+list_all_printable (byte ∷ text) h = rw (text_byte_is_printable byte (and_parts _ _ h).0) (list_all_printable text (and_parts _ _ h).1)
 
 pub AllPass-from_text : (text : List ℕ) → list_all is_text_byte text ≡ true → AllPass is_printable text
 AllPass-from_text text h = AllPass-from_list_all is_printable text (list_all_printable text h)

@@ -4,7 +4,7 @@ use Rattle.std.proofs.lemmas.List.{append-nil}
 use Rattle.std.specs.declared.alloc.Global.{Global}
 use Rattle.tx_io.specs.declared.files.LoadFault.TheVariants.{Failed, TooLong as PastLimit, NoMemory as NoRoom}
 use Rattle.tx_io.specs.Faults.{raised}
-use Rattle.tx_io.specs.Loading.{FilesSeen, Load, load_of, files_seen, append_loads, failed_loads, after_loads}
+use Rattle.tx_io.specs.Loading.{FilesSeen, Load, load_of, append_loads, failed_loads, after_loads}
 use Rattle.tx_io.specs.Store.{Answer, LoadGives}
 use Rattle.tx_parse.specs.Texts.{sheet_of}
 use Rattle.tx_app.specs.Words.{Show, Task, Shows, Checks, asked}
@@ -36,6 +36,10 @@ raised-raised n j k = omega arith
 
 raised-none : (n : ℕ) → n ≡ raised n 0
 raised-none n = omega arith
+
+-- what files tell, from its parts
+abbrev files_seen : Option (List ℕ → Option (List ℕ)) → Option (List Load) → ℕ → FilesSeen
+files_seen contents loads faults = record { contents = contents; loads = loads; faults = faults }
 
 after_loads-append : (before : FilesSeen) (xs ys : List Load) → after_loads (after_loads before xs) ys ≡ after_loads before (xs ++ ys)
 after_loads-append before xs ys =

@@ -6,7 +6,8 @@ use Rattle.std.proofs.lemmas.Grind.{common_steps}
 use Rattle.std.specs.Io.KnownBytes.{append_known}
 use Rattle.tx_io.specs.declared.send.Sent.{Sent}
 use Rattle.tx_io.specs.Faults.{raised}
-use Rattle.tx_io.specs.Sending.{SinkSeen, Sends, failed_puts}
+use Rattle.tx_io.specs.Sending.{Sends, failed_puts}
+use Rattle.tx_io.specs.Sink.{SinkSeen}
 use Rattle.tx_app.specs.Report.{Said, Says, IsReported}
 
 -- nothing was said yet

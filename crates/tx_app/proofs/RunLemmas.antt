@@ -6,7 +6,8 @@ use Rattle.tx_io.specs.declared.files.LoadFault.TheVariants.{Failed, TooLong as 
 use Rattle.tx_io.specs.declared.send.Sent.{Sent}
 use Rattle.tx_io.specs.Faults.{raised, Rose}
 use Rattle.tx_io.specs.Loading.{FilesSeen, load_of, failed_loads, after_loads}
-use Rattle.tx_io.specs.Sending.{SinkSeen, failed_puts}
+use Rattle.tx_io.specs.Sending.{failed_puts}
+use Rattle.tx_io.specs.Sink.{SinkSeen}
 use Rattle.tx_io.specs.Store.{Answer, LoadGives}
 use Rattle.tx_parse.specs.Grammar.{Found}
 use Rattle.tx_parse.specs.Texts.{Report, sheet_of}
@@ -24,7 +25,7 @@ use Rattle.tx_app.specs.declared.outcome.Cause.{Cause}
 use Rattle.tx_app.specs.declared.outcome.Cause.TheVariants.{Usage, Refused, ReadFault, SinkFault, NoMemory}
 use Rattle.tx_app.specs.declared.outcome.Entry.{Entry}
 use Rattle.tx_app.specs.declared.sheet_form.Looks.{Looks}
-use Rattle.tx_parse.proofs.WholeTexts.{text_sheet}
+use Rattle.tx_parse.proofs.lemmas.TextLaws.{text_sheet}
 use Rattle.tx_app.proofs.ShowingLemmas.{append_known-nothing, raised-none}
 
 -- ---- the reading and the show, joined

@@ -1,6 +1,7 @@
 -- Rows and cells of a picture.
-use Rattle.std.proofs.Common.{◌≡◌, ◌≢◌, ◌≤◌, ◌<◌, ◌+◌, ◌-◌, ◌*◌, ℕ, zero, suc, Bool, true, false, cond, ◌&&◌, nat_lt, List, [], ◌∷◌, ◌++◌, length, map, drop, replicate, get_or, refl, ap, sym, ◌∙◌, arith, length-append, length-drop, append-nil, below_more, ◌^◌, nat_le, Option, Some, None, unwrap_or, if◌then◌else◌}
+use Rattle.std.proofs.Common.{◌≡◌, ◌≢◌, ◌≤◌, ◌<◌, ◌+◌, ◌-◌, ◌*◌, ℕ, zero, suc, Bool, true, false, cond, nat_lt, List, [], ◌∷◌, ◌++◌, length, map, drop, replicate, get_or, refl, ap, sym, ◌∙◌, arith, length-append, length-drop, append-nil, below_more, ◌^◌, nat_le, Option, Some, None, unwrap_or, if◌then◌else◌}
 use Rattle.std.specs.List.{range_with_len, AllPass, AllByRecursion}
+use Rattle.std.proofs.lemmas.Bool.{and_parts}
 use Rattle.std.proofs.lemmas.Bool.Decides.{nat_tests}
 use Rattle.std.proofs.lemmas.List.{get_or-map, get_or-replicate, length-replicate, get_or_append_left, get_or-append-add, nil_from_length}
 use Rattle.std.proofs.lemmas.List.Elements.{All-append, All-replicate}
@@ -182,14 +183,6 @@ PaintedTo-end scene grid y done past =
 
 -- ---- Statics that fit
 
-and_first : (a b : Bool) → (a && b) ≡ true → a ≡ true
-and_first true b h = refl
-and_first false b h = cc
-
-and_second : (a b : Bool) → (a && b) ≡ true → b ≡ true
-and_second true b h = h
-and_second false b h = cc
-
 le_true : (a b : ℕ) → nat_le a b ≡ true → a ≤ b
 le_true a b h = grind (arith, nat_tests)
 
@@ -204,8 +197,8 @@ pub all_fit : (size : Size) (height j : ℕ) (texts : List (List ℕ)) → first
 all_fit size height j [] h rows = (omega (arith, rows), tt)
 all_fit size height j (text ∷ texts) h rows =
     let split = first_fits (fits size (Some height) (j + 1) text) _ (j + 1) h in
-    let high : (j + 1) * height ≤ size.height = le_true _ _ (and_first _ _ split.0) in
-    let wide : length text ≤ size.width = le_true _ _ (and_second _ _ split.0) in
+    let high : (j + 1) * height ≤ size.height = le_true _ _ (and_parts _ _ split.0).0 in
+    let wide : length text ≤ size.width = le_true _ _ (and_parts _ _ split.0).1 in
     let more = all_fit size height (j + 1) texts split.1 high in
     let count : (j + 1) + length texts ≡ j + length (text ∷ texts) = omega arith in
     (rw (← count) more.0, (wide, more.1))

@@ -4,7 +4,8 @@ use Rattle.std.specs.Io.KnownBytes.{append_known}
 use Rattle.tx_cell.specs.Grid.{GridValue}
 use Rattle.tx_io.specs.declared.send.Sent.{Sent}
 use Rattle.tx_io.specs.Faults.{raised}
-use Rattle.tx_io.specs.Sending.{SinkSeen, Sends, failed_puts}
+use Rattle.tx_io.specs.Sending.{Sends, failed_puts}
+use Rattle.tx_io.specs.Sink.{SinkSeen}
 use Rattle.tx_term.specs.Update.{update, closing}
 use Rattle.tx_app.specs.Scene.{Scene, picture, at_first}
 use Rattle.tx_app.specs.Run.{Opens, Refreshing, Unmade, Made, first_update, refresh_bytes, refresh_faults, entry_of, cause_of, end_cause, sink_cause, unsent}

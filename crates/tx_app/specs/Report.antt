@@ -1,7 +1,8 @@
 -- Pieces of a line that are sent one behind another.
 use Rattle.std.specs.Prelude.{◌≡◌, ℕ, Bool, List, ◌++◌}
 use Rattle.tx_io.specs.declared.send.Sent.{Sent}
-use Rattle.tx_io.specs.Sending.{SinkSeen, Sends}
+use Rattle.tx_io.specs.Sending.{Sends}
+use Rattle.tx_io.specs.Sink.{SinkSeen}
 
 -- these bytes were sent, so far as the sink took them, and a put failed or not
 pub record Said (before now : SinkSeen) (bytes : List ℕ) (failed : Bool) : Type 0 where

@@ -4,7 +4,8 @@ use Rattle.std.specs.Io.KnownBytes.{append_known}
 use Rattle.tx_io.specs.declared.files.LoadFault.TheVariants.{Failed, TooLong as PastLimit, NoMemory as NoRoom}
 use Rattle.tx_io.specs.declared.send.Sent.{Sent}
 use Rattle.tx_io.specs.Faults.{raised}
-use Rattle.tx_io.specs.Sending.{SinkSeen, Sends, failed_puts}
+use Rattle.tx_io.specs.Sending.{Sends, failed_puts}
+use Rattle.tx_io.specs.Sink.{SinkSeen}
 use Rattle.tx_io.specs.Loading.{FilesSeen, Load, load_of, after_loads}
 use Rattle.tx_io.specs.Store.{Answer, LoadGives}
 use Rattle.tx_parse.specs.Grammar.{Found}

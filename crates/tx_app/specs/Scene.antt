@@ -4,9 +4,10 @@ use Rattle.std.specs.List.{range_with_len, AllPass, AllByRecursion}
 use Rattle.tx_geom.specs.declared.places.Size.{Size}
 use Rattle.tx_cell.specs.Cell.{CellValue, shown, blank}
 use Rattle.tx_cell.specs.Grid.{GridValue, filled}
+use Rattle.tx_cell.specs.Pen.{white_on_black}
 use Rattle.tx_cell.specs.Plain.{is_printable}
 use Rattle.tx_cell.specs.declared.pen.Pen.{Pen}
-use Rattle.tx_cell.specs.declared.pen.TextStyle.{TextStyle}
+use Rattle.tx_geom.specs.Marks.{no_marks}
 use Rattle.tx_app.specs.Words.{IsScreen}
 use Rattle.tx_app.specs.declared.sheet_form.Look.{Look}
 use Rattle.tx_app.specs.declared.sheet_form.Looks.{Looks}
@@ -29,9 +30,6 @@ pub record IsPaintable (scene : Scene) : Type 0 where
   pub printable : AllByRecursion (AllPass is_printable) scene.texts
 
 -- ---- what the tree and the sheet come to
-
-abbrev pub no_marks : TextStyle
-no_marks = record { bold = false; dim = false; italic = false; underline = false; reverse = false; strike = false }
 
 -- the colours of a Screen without a rule: #e0e0e0 on #121212
 abbrev pub screen_pen : Look → Pen
@@ -93,8 +91,5 @@ unfoldable pub picture : Scene → GridValue
 picture scene = record { size = scene.size; rows = map (row_of_scene scene) (range_with_len 0 scene.size.height) }
 
 -- what the screen shows before anything was sent: blanks of white on black
-abbrev pub white_on_black : Pen
-white_on_black = record { fore = record { r = 255; g = 255; b = 255 }; back = record { r = 0; g = 0; b = 0 }; style = no_marks }
-
 unfoldable pub at_first : Size → GridValue
 at_first size = filled size (blank white_on_black)

@@ -4,7 +4,8 @@ use Rattle.std.specs.Io.KnownBytes.{append_known}
 use Rattle.tx_io.specs.declared.send.Sent.{Sent}
 use Rattle.tx_io.specs.Faults.{raised}
 use Rattle.tx_io.specs.Loading.{FilesSeen, after_loads}
-use Rattle.tx_io.specs.Sending.{SinkSeen, failed_puts}
+use Rattle.tx_io.specs.Sending.{failed_puts}
+use Rattle.tx_io.specs.Sink.{SinkSeen}
 use Rattle.tx_app.specs.Scene.{Scene}
 use Rattle.tx_app.specs.Words.{asked}
 use Rattle.tx_app.specs.Run.{Reading, IsOfFiles, opening_of, loads_of, Refreshing, Course, CanBeSent, CanBecome, first_update, refresh_bytes, refresh_faults, entry_of, Opens, IsCourse, bytes_of, faults_of, cause_of, sink_cause}

@@ -53,11 +53,16 @@ abbrev pub unbuilt : {A : Type 0} → Result A ℕ → Result A Fault
 unbuilt (Ok value) = Ok value
 unbuilt (Err line) = Err (line, Unbuilt)
 
+-- the rows of a tree file, or its first fault
+abbrev pub rows_or_fault : Result (List Row) LineFault → Result (List Row) Fault
+rows_or_fault (Ok rows) = Ok rows
+rows_or_fault (Err fault) = Err (fault.line, Tree fault.kind)
+
 -- a fault of the file comes before a row that is outside the form
-abbrev pub texts_in : Result (List Row) LineFault → Result (List (List ℕ)) Fault
+abbrev pub texts_in : Result (List Row) Fault → Result (List (List ℕ)) Fault
 texts_in (Ok rows) = unbuilt (below_screen rows)
-texts_in (Err fault) = Err (fault.line, Tree fault.kind)
+texts_in (Err fault) = Err fault
 
 -- The texts of the Statics in order, or the first line that is at fault.
 unfoldable pub texts_of : List ℕ → Result (List (List ℕ)) Fault
-texts_of bytes = texts_in (tree_of bytes)
+texts_of bytes = texts_in (rows_or_fault (tree_of bytes))

@@ -1,7 +1,6 @@
 //! What the program does: from words, files and sinks to an outcome.
 #![tactic(auto)]
 
-mod journal;
 mod open;
 mod outcome;
 mod report;
@@ -13,6 +12,5 @@ mod tests;
 mod tree_form;
 mod words;
 
-pub use journal::Journal;
-pub use outcome::{Cause, Entry, Outcome, Refreshed, Refusal};
+pub use outcome::{Cause, Entry, Journal, Outcome, Refreshed, Refusal};
 pub use run::top_alone;

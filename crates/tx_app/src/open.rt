@@ -2,7 +2,6 @@
 ghost use Rattle.std.specs.Prelude.{◌≡◌, ◌<◌, ◌^◌, map, length, string_bytes, decimal, ◌++◌, IfOk, OnOk};
 ghost use Rattle.std.specs.List.{AllPass, AllByRecursion};
 ghost use Rattle.tx_cell.specs.Plain.{is_printable};
-ghost use Rattle.tx_io.specs.Loading.{files_seen};
 ghost use Rattle.tx_app.specs.Run.{counts_of};
 ghost use Rattle.tx_app.specs.Opening.{IsStop, Loads, Counts, IsCounted, OpensCheck, OpensSheet, OpensTexts, OpensTree, OpensWords};
 ghost use Rattle.tx_app.specs.Words.{IsScreen};
@@ -18,7 +17,7 @@ use std::alloc::{AllocError, Global};
 use tx_geom::Size;
 use tx_io::{Files, LoadFault};
 use tx_parse::{Sheet, SheetFault, read_sheet};
-use tx_tree::Text;
+use tx_text::Text;
 
 const FILE_LIMIT: u64 = 4_194_304;
 
@@ -38,10 +37,7 @@ fn refused(alloc: Global, file: &str, line: u32, column: u32, kind: Refusal) -> 
 }
 
 fn load<F: Files>(alloc: Global, files: &mut F, name: &str) -> Result<Vec<u8>, Cause>
-    ensures { Loads
-        (files_seen (F.contents files.old) (F.loads files.old) (F.faults files.old))
-        (files_seen (F.contents files.new) (F.loads files.new) (F.faults files.new))
-        name.now result }
+    ensures { Loads (F.seen files.old) (F.seen files.new) name.now result }
 {
     match files.load(alloc, name, FILE_LIMIT) {
         Ok(bytes) => Ok(bytes),
@@ -64,8 +60,7 @@ fn open_sheet<F: Files>(
     requires few { length texts.items < 2 ^ 31 }
     requires printable { AllByRecursion (AllPass is_printable) texts.items }
     ensures { OpensSheet
-        (files_seen (F.contents files.old) (F.loads files.old) (F.faults files.old))
-        (files_seen (F.contents files.new) (F.loads files.new) (F.faults files.new))
+        (F.seen files.old) (F.seen files.new)
         (record { tree = tree.now; sheet = sheet.now; size = size }) texts.items result }
 {
     let bytes = match load(alloc, files, sheet) {
@@ -84,10 +79,7 @@ fn open_sheet<F: Files>(
 
 /// The texts of a tree that is to be loaded.
 fn open_texts<F: Files>(alloc: Global, files: &mut F, tree: &str) -> Result<Vec<Text>, Cause>
-    ensures texts { OpensTexts
-        (files_seen (F.contents files.old) (F.loads files.old) (F.faults files.old))
-        (files_seen (F.contents files.new) (F.loads files.new) (F.faults files.new))
-        tree.now result }
+    ensures texts { OpensTexts (F.seen files.old) (F.seen files.new) tree.now result }
     ensures printable { IfOk result (λ texts. AllByRecursion (AllPass is_printable) texts.items) }
     ensures few { IfOk result (λ texts. length texts.items < 65536) }
 {
@@ -109,8 +101,7 @@ fn open_tree<F: Files>(
 ) -> Result<Scene, Cause>
     requires { IsScreen size }
     ensures { OpensTree
-        (files_seen (F.contents files.old) (F.loads files.old) (F.faults files.old))
-        (files_seen (F.contents files.new) (F.loads files.new) (F.faults files.new))
+        (F.seen files.old) (F.seen files.new)
         (record { tree = tree.now; sheet = sheet.now; size = size }) result }
 {
     match open_texts(alloc, files, tree) {
@@ -172,10 +163,7 @@ fn counted(alloc: Global, name: &str, bytes: &[u8]) -> Result<Vec<u8>, Cause>
 
 /// The counts of a sheet that is to be loaded.
 fn open_check<F: Files>(alloc: Global, files: &mut F, name: &str) -> Result<Vec<u8>, Cause>
-    ensures { OpensCheck
-        (files_seen (F.contents files.old) (F.loads files.old) (F.faults files.old))
-        (files_seen (F.contents files.new) (F.loads files.new) (F.faults files.new))
-        name.now result }
+    ensures { OpensCheck (F.seen files.old) (F.seen files.new) name.now result }
 {
     match load(alloc, files, name) {
         Ok(bytes) => counted(alloc, name, &bytes),
@@ -195,8 +183,7 @@ pub enum Opened {
 /// What the words ask for, with the files that they name.
 pub fn open_words<F: Files>(alloc: Global, files: &mut F, words: &[String]) -> Result<Opened, Cause>
     ensures { OpensWords
-        (files_seen (F.contents files.old) (F.loads files.old) (F.faults files.old))
-        (files_seen (F.contents files.new) (F.loads files.new) (F.faults files.new))
+        (F.seen files.old) (F.seen files.new)
         (map string_bytes words.now) result }
 {
     match read_words(words) {

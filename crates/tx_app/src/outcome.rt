@@ -1,8 +1,8 @@
 //! What a run comes to.
 
-use crate::journal::Journal;
 use tx_parse::SheetKind;
-use tx_tree::{Text, TreeKind};
+use tx_text::{Items, Text};
+use tx_tree::TreeKind;
 
 /// What a run did.
 #[derive(Debug, Drop)]
@@ -27,6 +27,9 @@ pub enum Entry {
         faults: u64,
     },
 }
+
+/// The events of a run in their order.
+pub type Journal = Items<Entry>;
 
 /// How a refresh ended.
 #[derive(Clone, Copy, Debug, PartialEq, Eq)]

@@ -1,6 +1,5 @@
 //! The error line.
 ghost use Rattle.std.specs.Prelude.{◌≡◌, false, decimal};
-ghost use Rattle.tx_io.specs.Sending.{seen};
 ghost use Rattle.tx_app.specs.Report.{Says, IsReported};
 ghost use Rattle.tx_app.specs.Run.{error_bytes, error_line, kind_bytes, tree_kind_bytes, sheet_kind_bytes, refused_line};
 
@@ -12,7 +11,7 @@ use tx_tree::TreeKind;
 
 /// Sends a piece behind others, unless a put of those failed. Answers whether one has failed.
 fn say<E: Sink>(err: &mut E, failed: bool, piece: &[u8]) -> bool
-    ensures { Says (seen (E.taken err.old) (E.faults err.old)) (seen (E.taken err.new) (E.faults err.new)) failed result piece.now }
+    ensures { Says (E.seen err.old) (E.seen err.new) failed result piece.now }
 {
     if failed {
         return true;
@@ -21,7 +20,7 @@ fn say<E: Sink>(err: &mut E, failed: bool, piece: &[u8]) -> bool
 }
 
 fn say_number<E: Sink>(err: &mut E, failed: bool, number: u32) -> bool
-    ensures { Says (seen (E.taken err.old) (E.faults err.old)) (seen (E.taken err.new) (E.faults err.new)) failed result (decimal number) }
+    ensures { Says (E.seen err.old) (E.seen err.new) failed result (decimal number) }
 {
     let mut buffer = Buffer::new();
     say(err, failed, buffer.format(number).as_bytes())
@@ -70,7 +69,7 @@ fn kind_bytes(kind: Refusal) -> &'static [u8]
 }
 
 fn say_refused<E: Sink>(err: &mut E, file: &str, line: u32, column: u32, kind: Refusal) -> bool
-    ensures { Says (seen (E.taken err.old) (E.faults err.old)) (seen (E.taken err.new) (E.faults err.new)) false result (refused_line file.now line column kind) }
+    ensures { Says (E.seen err.old) (E.seen err.new) false result (refused_line file.now line column kind) }
 {
     let failed = say(err, false, b"tx: ");
     let failed = say(err, failed, file.as_bytes());
@@ -84,7 +83,7 @@ fn say_refused<E: Sink>(err: &mut E, file: &str, line: u32, column: u32, kind: R
 }
 
 fn say_cause<E: Sink>(err: &mut E, cause: &Cause) -> bool
-    ensures { Says (seen (E.taken err.old) (E.faults err.old)) (seen (E.taken err.new) (E.faults err.new)) false result (error_line cause.now) }
+    ensures { Says (E.seen err.old) (E.seen err.new) false result (error_line cause.now) }
 {
     match cause {
         Cause::Usage => say(err, false, b"tx: usage\n"),
@@ -102,7 +101,7 @@ fn say_cause<E: Sink>(err: &mut E, cause: &Cause) -> bool
 
 /// Sends the line that says the cause, or nothing. What the sink takes of it changes nothing else.
 pub fn report<E: Sink>(err: &mut E, cause: &Option<Cause>)
-    ensures { IsReported (seen (E.taken err.old) (E.faults err.old)) (seen (E.taken err.new) (E.faults err.new)) (error_bytes cause.now) }
+    ensures { IsReported (E.seen err.old) (E.seen err.new) (error_bytes cause.now) }
 {
     match cause {
         Some(cause) => {

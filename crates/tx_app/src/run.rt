@@ -1,40 +1,20 @@
 //! The run.
 ghost use Rattle.std.specs.Prelude.{◌≡◌, [], map, IfSome, string_bytes};
-ghost use Rattle.tx_io.specs.Loading.{files_seen};
-ghost use Rattle.tx_io.specs.Sending.{seen, Sends, failed_puts};
+ghost use Rattle.tx_io.specs.Sending.{Sends, failed_puts};
 ghost use Rattle.tx_app.specs.Run.{IsRun, status_of, entry_of, sink_cause, Made};
 ghost use Rattle.tx_app.specs.Scene.{at_first};
 ghost use Rattle.tx_app.specs.Showing.{Refreshes, IsPrinting, Runs, Shows, entry_cause};
 ghost use Rattle.tx_app.specs.Faults.{CausedBy, IsComplete, read_faults, sink_faults};
 ghost use Rattle.tx_term.specs.Update.{closing};
 
-use crate::journal::Journal;
 use crate::open::{Opened, open_words};
-use crate::outcome::{Cause, Entry, Outcome, Refreshed};
+use crate::outcome::{Cause, Entry, Journal, Outcome, Refreshed};
 use crate::report::report;
 use crate::scene::Scene;
 use std::alloc::Global;
-use tx_cell::{Cell, Grid, Pen, TextStyle};
-use tx_geom::Rgb;
+use tx_cell::{Cell, Grid, Pen};
 use tx_io::{Files, Sent, Sink, send_all};
 use tx_term::{CLOSING, present};
-
-const WHITE_ON_BLACK: Pen = Pen {
-    fore: Rgb {
-        r: 0xff,
-        g: 0xff,
-        b: 0xff,
-    },
-    back: Rgb { r: 0, g: 0, b: 0 },
-    style: TextStyle {
-        bold: false,
-        dim: false,
-        italic: false,
-        underline: false,
-        reverse: false,
-        strike: false,
-    },
-};
 
 fn entry_of(sent: Sent) -> Entry
     ensures { result ≡ entry_of (Made sent) }
@@ -64,7 +44,7 @@ const UNMADE: Entry = Entry::Refresh {
 /// Makes the picture and sends its update, which is whole.
 fn refresh<K: Sink>(alloc: Global, scene: &Scene, shown: &mut Grid, out: &mut K) -> Entry
     requires { shown.old ≡ at_first scene.now.size }
-    ensures { Refreshes (seen (K.taken out.old) (K.faults out.old)) (seen (K.taken out.new) (K.faults out.new)) scene.now result }
+    ensures { Refreshes (K.seen out.old) (K.seen out.new) scene.now result }
 {
     match scene.paint(alloc) {
         Ok(next) => entry_of(present(shown, &next, true, out)),
@@ -73,7 +53,7 @@ fn refresh<K: Sink>(alloc: Global, scene: &Scene, shown: &mut Grid, out: &mut K)
 }
 
 fn send_closing<K: Sink>(out: &mut K) -> Sent
-    ensures { Sends (seen (K.taken out.old) (K.faults out.old)) (seen (K.taken out.new) (K.faults out.new)) closing result }
+    ensures { Sends (K.seen out.old) (K.seen out.new) closing result }
 {
     send_all(out, CLOSING)
 }
@@ -102,12 +82,12 @@ fn show<K: Sink>(
     out: &mut K,
     journal: &mut Vec<Entry>,
 ) -> Option<Cause>
-    ensures { Shows (seen (K.taken out.old) (K.faults out.old)) (seen (K.taken out.new) (K.faults out.new)) scene.now journal.old.items journal.new.items result }
+    ensures { Shows (K.seen out.old) (K.seen out.new) scene.now journal.old.items journal.new.items result }
 {
     if journal.try_reserve(1).is_err() {
         return Some(Cause::NoMemory);
     }
-    let mut shown = match Grid::open(alloc, scene.size, Cell::blank(WHITE_ON_BLACK)) {
+    let mut shown = match Grid::open(alloc, scene.size, Cell::blank(Pen::WHITE_ON_BLACK)) {
         Ok(shown) => shown,
         Err(_) => return Some(Cause::NoMemory),
     };
@@ -132,7 +112,7 @@ fn sink_cause(rose: u64) -> Option<Cause>
 
 /// Sends a line.
 fn print<K: Sink>(out: &mut K, line: &[u8]) -> Option<Cause>
-    ensures { IsPrinting (seen (K.taken out.old) (K.faults out.old)) (seen (K.taken out.new) (K.faults out.new)) line.now result }
+    ensures { IsPrinting (K.seen out.old) (K.seen out.new) line.now result }
 {
     let sent = send_all(out, line);
     sink_cause(failures(sent))
@@ -147,9 +127,7 @@ fn run<F: Files, K: Sink>(
 ) -> Option<Cause>
     requires { journal.old.items ≡ [] }
     ensures { Runs (map string_bytes words.now)
-        (files_seen (F.contents files.old) (F.loads files.old) (F.faults files.old))
-        (files_seen (F.contents files.new) (F.loads files.new) (F.faults files.new))
-        (seen (K.taken out.old) (K.faults out.old)) (seen (K.taken out.new) (K.faults out.new)) journal.new.items result }
+        (F.seen files.old) (F.seen files.new) (K.seen out.old) (K.seen out.new) journal.new.items result }
 {
     match open_words(alloc, files, words) {
         Ok(Opened::Picture(scene)) => show(alloc, &scene, out, journal),
@@ -189,18 +167,16 @@ pub fn top_alone<F: Files, K: Sink, E: Sink>(
     err: &mut E,
 ) -> Outcome
     ensures run { IsRun (map string_bytes words.now)
-        (files_seen (F.contents files.old) (F.loads files.old) (F.faults files.old))
-        (files_seen (F.contents files.new) (F.loads files.new) (F.faults files.new))
-        (seen (K.taken out.old) (K.faults out.old)) (seen (K.taken out.new) (K.faults out.new))
-        (seen (E.taken err.old) (E.faults err.old)) (seen (E.taken err.new) (E.faults err.new)) result }
+        (F.seen files.old) (F.seen files.new)
+        (K.seen out.old) (K.seen out.new) (E.seen err.old) (E.seen err.new) result }
 
     // Status 3 comes only where a load failed in this call, and status 5 only where a put on `out` did.
-    ensures read_fault { CausedBy (read_faults result.cause) (F.faults files.old) (F.faults files.new) }
-    ensures sink_fault { CausedBy (sink_faults result.cause) (K.faults out.old) (K.faults out.new) }
+    ensures read_fault { CausedBy (read_faults result.cause) (F.seen files.old).faults (F.seen files.new).faults }
+    ensures sink_fault { CausedBy (sink_faults result.cause) (K.seen out.old).faults (K.seen out.new).faults }
 
     // Words and files in the form, and no rise of a count, give status 0 or want of memory.
-    ensures complete { IfSome (F.contents files.old) (λ told. IsComplete (map string_bytes words.now) told
-        (F.faults files.old) (F.faults files.new) (K.faults out.old) (K.faults out.new) result.cause) }
+    ensures complete { IfSome (F.seen files.old).contents (λ told. IsComplete (map string_bytes words.now) told
+        (F.seen files.old).faults (F.seen files.new).faults (K.seen out.old).faults (K.seen out.new).faults result.cause) }
 {
     let mut journal = Vec::new(alloc);
     let cause = run(alloc, words, files, out, &mut journal);

@@ -8,9 +8,9 @@ ghost use Rattle.tx_app.specs.Scene.{IsPaintable, picture, row_of_scene, text_in
 use crate::sheet_form::{Look, Looks};
 use std::alloc::{AllocError, Global};
 use std::marker::Model;
-use tx_cell::{Cell, Grid, Pen, Strip, TextStyle, cells_of};
-use tx_geom::{Rgb, Size};
-use tx_tree::Text;
+use tx_cell::{Cell, Grid, Pen, Strip, cells_of};
+use tx_geom::{Rgb, Size, TextStyle};
+use tx_text::Text;
 
 /// A Screen with Statics, one below the other.
 #[derive(Drop)]
@@ -134,22 +134,13 @@ const SCREEN_BACK: Rgb = Rgb {
     b: 0x12,
 };
 
-const NO_MARKS: TextStyle = TextStyle {
-    bold: false,
-    dim: false,
-    italic: false,
-    underline: false,
-    reverse: false,
-    strike: false,
-};
-
 fn screen_pen(look: Look) -> Pen
     ensures { result ≡ screen_pen look }
 {
     Pen {
         fore: look.color.unwrap_or(SCREEN_FORE),
         back: look.background.unwrap_or(SCREEN_BACK),
-        style: NO_MARKS,
+        style: TextStyle::PLAIN,
     }
 }
 
@@ -160,7 +151,7 @@ fn static_pen(looks: Looks) -> Pen
     Pen {
         fore: looks.statics.color.unwrap_or(screen.fore),
         back: looks.statics.background.unwrap_or(screen.back),
-        style: NO_MARKS,
+        style: TextStyle::PLAIN,
     }
 }
 

@@ -6,7 +6,9 @@ use recorded::{Made, Recorded};
 use std::alloc::{AllocError, Global};
 use std::process::Abort;
 use std::test::Fail;
+use tx_expect::expect;
 use tx_io::{MemoryFiles, MemorySink};
+use tx_test_kit::{files_of, words_of};
 
 /// What a run is given.
 #[derive(Clone, Copy)]
@@ -29,31 +31,14 @@ struct Ran {
     err: MemorySink,
 }
 
-fn words_of(alloc: Global, words: &[&str]) -> Result<Vec<String>, AllocError> {
-    let mut all = Vec::new(alloc);
-    for word in words {
-        all.push(String::from_str(alloc, word)?)?;
-    }
-    Ok(all)
-}
-
-fn files_of(alloc: Global, given: &Given) -> Result<MemoryFiles, AllocError> {
-    let mut entries = Vec::new(alloc);
-    entries.push((
-        String::from_str(alloc, "t.tree")?,
-        given.tree.to_vec(alloc)?,
-    ))?;
-    entries.push((
-        String::from_str(alloc, "s.tcss")?,
-        given.sheet.to_vec(alloc)?,
-    ))?;
-    let failing = given.failing_loads.to_vec(alloc)?;
-    Ok(MemoryFiles::new(entries, failing))
+fn given_files(alloc: Global, given: &Given) -> Result<MemoryFiles, AllocError> {
+    let files: [(&str, &[u8]); 2] = [("t.tree", given.tree), ("s.tcss", given.sheet)];
+    files_of(alloc, &files, given.failing_loads)
 }
 
 fn run(rt: &HostRuntime, given: &Given) -> Result<Ran, AllocError> {
     let words = words_of(rt.alloc(), given.words)?;
-    let mut files = files_of(rt.alloc(), given)?;
+    let mut files = given_files(rt.alloc(), given)?;
     let mut out = MemorySink::new(rt.alloc(), given.out_fails.to_vec(rt.alloc())?);
     let mut err = MemorySink::new(rt.alloc(), given.err_fails.to_vec(rt.alloc())?);
     let outcome = top_alone(rt.alloc(), &words, &mut files, &mut out, &mut err);
@@ -84,10 +69,6 @@ const STATICS: Given<'_> = Given {
     out_fails: &[],
     err_fails: &[],
 };
-
-fn expect(fine: bool, what: &'static str) -> Result<(), Fail> {
-    if fine { Ok(()) } else { Err(Fail::from(what)) }
-}
 
 /// A picture that is shown whole: these bytes, of which so many are the update.
 fn shows(rt: &HostRuntime, given: &Given, bytes: &[u8], update: u64) -> Result<(), Fail> {
@@ -430,7 +411,7 @@ fn loads<R: Abort>(
     wanted: &[(&str, bool)],
 ) -> Result<(), Fail> {
     let words = words_of(alloc, given.words)?;
-    let mut files = Recorded::new(rt, alloc, files_of(alloc, given)?);
+    let mut files = Recorded::new(rt, alloc, given_files(alloc, given)?);
     let mut out = MemorySink::new(alloc, Vec::new(alloc));
     let mut err = MemorySink::new(alloc, Vec::new(alloc));
     let _ = top_alone(alloc, &words, &mut files, &mut out, &mut err);

@@ -2,14 +2,16 @@
 ghost use Rattle.std.specs.Prelude.{◌≡◌, ◌<◌, ◌≤◌, ◌+◌, ◌^◌, IfSome, IfOk, length, map, option_map};
 ghost use Rattle.std.specs.List.{list_all, AllPass, AllByRecursion};
 ghost use Rattle.tx_cell.specs.Plain.{is_printable};
+ghost use Rattle.tx_read.specs.Answer.{Gives};
 ghost use Rattle.tx_tree.specs.Row.{plain};
 ghost use Rattle.tx_tree_file.specs.TreeReading.{tree_of};
-ghost use Rattle.tx_app.specs.Reading.{ReadsForm, ReadsRows, unbuilt_at};
-ghost use Rattle.tx_app.specs.TreeForm.{texts_of, unbuilt, below_screen, statics, static_text, is_bare, is_static, is_text_byte, is_empty};
+ghost use Rattle.tx_app.specs.Reading.{told, unbuilt_at};
+ghost use Rattle.tx_app.specs.TreeForm.{rows_or_fault, texts_of, unbuilt, below_screen, statics, static_text, is_bare, is_static, is_text_byte, is_empty};
 
 use crate::outcome::Refusal;
 use std::alloc::{AllocError, AllocFailed, Global};
-use tx_tree::{Kind, Row, Text, TreeFault};
+use tx_text::Text;
+use tx_tree::{Kind, Row, TreeFault};
 use tx_tree_file::read_tree;
 
 /// Why a file wasn't read.
@@ -89,7 +91,7 @@ fn static_text(row: &Row) -> Option<&str>
 /// The texts of the rows behind the Screen, the first of which stands in line 2.
 fn read_statics(alloc: Global, rows: &[Row]) -> Result<Vec<Text>, FormFault>
     requires { length rows.now < 65536 }
-    ensures reads { ReadsForm (λ texts. texts.items) result (unbuilt (statics 2 rows.now)) }
+    ensures reads { Gives (λ texts. texts.items) told result (unbuilt (statics 2 rows.now)) }
     ensures printable { IfOk result (λ texts. AllByRecursion (AllPass is_printable) texts.items) }
     ensures few { IfOk result (λ texts. length texts.items ≤ length rows.now) }
 {
@@ -108,7 +110,7 @@ fn read_statics(alloc: Global, rows: &[Row]) -> Result<Vec<Text>, FormFault>
 /// The texts of a tree, whose first row is the Screen.
 fn texts_in(alloc: Global, rows: &[Row]) -> Result<Vec<Text>, FormFault>
     requires { length rows.now ≤ 65536 }
-    ensures reads { ReadsForm (λ texts. texts.items) result (unbuilt (below_screen rows.now)) }
+    ensures reads { Gives (λ texts. texts.items) told result (unbuilt (below_screen rows.now)) }
     ensures printable { IfOk result (λ texts. AllByRecursion (AllPass is_printable) texts.items) }
     ensures few { IfOk result (λ texts. length texts.items < 65536) }
 {
@@ -127,7 +129,7 @@ fn texts_in(alloc: Global, rows: &[Row]) -> Result<Vec<Text>, FormFault>
 /// The rows of a tree file.
 fn read_rows(alloc: Global, bytes: &[u8]) -> Result<Vec<Row>, FormFault>
     requires { length bytes.now < 2 ^ 32 }
-    ensures rows { ReadsRows result (tree_of bytes.now) }
+    ensures rows { Gives (λ rows. map plain rows.items) told result (rows_or_fault (tree_of bytes.now)) }
     ensures few { IfOk result (λ rows. length rows.items ≤ 65536) }
 {
     match read_tree(alloc, bytes) {
@@ -148,7 +150,7 @@ fn read_rows(alloc: Global, bytes: &[u8]) -> Result<Vec<Row>, FormFault>
 #[tactic(auto, unfolding(crate::specs::TreeForm::texts_of))]
 pub fn read_texts(alloc: Global, bytes: &[u8]) -> Result<Vec<Text>, FormFault>
     requires { length bytes.now < 2 ^ 32 }
-    ensures reads { ReadsForm (λ texts. texts.items) result (texts_of bytes.now) }
+    ensures reads { Gives (λ texts. texts.items) told result (texts_of bytes.now) }
     ensures printable { IfOk result (λ texts. AllByRecursion (AllPass is_printable) texts.items) }
     ensures few { IfOk result (λ texts. length texts.items < 65536) }
 {

@@ -1,4 +1,4 @@
-//! Files that keep what was loaded, for tests.
+//! Files that keep what was loaded.
 ghost use Rattle.std.specs.Prelude.{◌≡◌, ◌≤◌, [], ◌∷◌, ℕ, List, map, Some, IfOk, string_bytes, vec_len};
 ghost use Rattle.tx_io.specs.Faults.{raised};
 ghost use Rattle.tx_io.specs.Loading.{Load, load_of, append_loads};
@@ -38,6 +38,7 @@ impl<'a, R> Model for Recorded<'a, R> {
 }
 
 impl<'a, R> Recorded<'a, R> {
+    /// These files, of which no load was made.
     pub fn new(rt: &'a R, alloc: Global, files: MemoryFiles) -> Recorded<'a, R>
         ensures { result ≡ (files, []) }
     {
@@ -48,17 +49,14 @@ impl<'a, R> Recorded<'a, R> {
         }
     }
 
+    /// The loads so far, in their order.
     pub fn loads(&self) -> &[Made] {
         self.loads.as_slice()
     }
 }
 
 impl<R: Abort> Files for Recorded<'_, R> {
-    ghost contents = { λ r. Some (look_up r.0.entries) };
-
-    ghost loads = { λ r. Some r.1 };
-
-    ghost faults = { λ r. r.0.faults };
+    ghost seen = { λ r. record { contents = Some (look_up r.0.entries); loads = Some r.1; faults = r.0.faults } };
 
     fn load(&mut self, alloc: Global, name: &str, limit: u64) -> Result<Vec<u8>, LoadFault> {
         let answer = self.files.load(alloc, name, limit);
