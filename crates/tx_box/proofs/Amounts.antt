@@ -1,10 +1,11 @@
 -- All sizes and shares on the way are fractions in lowest terms that are at least 0.
 use Rattle.std.proofs.Common.{◌≡◌, ℕ, zero, suc, ◌+◌, ◌*◌, ◌<◌, ◌⊎◌, inl, inr, List, [], ◌∷◌, refl, sym, ◌∙◌, ap, subst, arith, ℤ, pos, negsuc, Bool, true, false, Option, Some, None, eqb-true}
-use Rattle.std.specs.Prelude.{◌==◌, ◌&&◌, not, ◌+ℤ◌, ◌*ℤ◌, ◌≤ℤ◌, unsigned_abs, IfSome}
+use Rattle.std.specs.Prelude.{◌==◌, not, ◌+ℤ◌, ◌*ℤ◌, ◌≤ℤ◌, unsigned_abs, IfSome}
 use Rattle.std.specs.Option.{option_and_then, option_map}
 use Rattle.std.specs.List.{AllByRecursion as Every}
 use Rattle.std.specs.Ordering.{int_eq}
 use Rattle.std.specs.Cmp.{signed_Decides}
+use Rattle.std.proofs.lemmas.Bool.{and_parts}
 use Rattle.std.proofs.lemmas.Int.{ints}
 use Rattle.std.proofs.Math.Nat.{mul_comm, mul-pos}
 use Rattle.tx_frac.specs.Ratio.{Ratio, IsLowest, IsRatio, negated, sum_of, product_of, quotient_of, defined_if, add, sub, mul, div}
@@ -44,10 +45,6 @@ defined_is : {A : Type 0} (b : Bool) (x z : A) → defined_if b x ≡ Some z →
 defined_is true x z e = (sym (same_some x z e), refl)
 defined_is false x z e = absurd cc
 
-both_first : (a b : Bool) → (a && b) ≡ true → a ≡ true
-both_first true b e = refl
-both_first false b e = e
-
 pub sum_is : (x y z : Ratio) → add x y ≡ Some z → z ≡ sum_of x y
 unfolding add
 sum_is x y z e = (defined_is _ (sum_of x y) z e).0
@@ -65,7 +62,7 @@ pub quotient_is : (x y z : Ratio) → div x y ≡ Some z → (z ≡ quotient_of 
 unfolding div
 quotient_is x y z e =
     let d = defined_is _ (quotient_of x y) z e in
-    (d.0, apart (unsigned_abs y.num) (both_first _ _ (both_first _ _ d.1)))
+    (d.0, apart (unsigned_abs y.num) (and_parts _ _ (and_parts _ _ d.1).0).0)
   where
     apart : (n : ℕ) → not (n == 0) ≡ true → 0 < n
     apart zero h = absurd cc
@@ -291,13 +288,9 @@ ratio n d = record { num = n; den = d }
 same_ratio : (m n : ℤ) (d e : ℕ) → m ≡ n → d ≡ e → ratio m d ≡ ratio n e
 same_ratio m n d e p q = cc
 
-both_second : (a b : Bool) → (a && b) ≡ true → b ≡ true
-both_second true b e = e
-both_second false b e = absurd cc
-
 pub same_true : (x y : Ratio) → same x y ≡ true → x ≡ y
 same_true x y e =
-    same_ratio x.num y.num x.den y.den ((signed_Decides x.num y.num).0 (both_first (int_eq x.num y.num) (x.den == y.den) e)) (eqb-true x.den y.den (both_second (int_eq x.num y.num) (x.den == y.den) e))
+    same_ratio x.num y.num x.den y.den ((signed_Decides x.num y.num).0 (and_parts (int_eq x.num y.num) (x.den == y.den) e).0) (eqb-true x.den y.den (and_parts (int_eq x.num y.num) (x.den == y.den) e).1)
 
 pub growing_comes : (u r s : Ratio) (l : Limits) (q : Part) (t : Ratio) → part_round u r (Growing s l) ≡ Some (q, t) → Stays u r s l q t ⊎ Settles u r s l q t
 unfolding part_round
