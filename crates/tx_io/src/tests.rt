@@ -4,7 +4,7 @@ use crate::{
 };
 use std::alloc::AllocError;
 use std::test::Fail;
-use std::{env, fs};
+use std::{env, fs, process};
 
 /// Sends five bytes and then two to a sink that fails at these places.
 fn sent_twice(rt: &HostRuntime, fail_at: &[u64]) -> Result<(Sent, Sent, MemorySink), AllocError> {
@@ -97,7 +97,7 @@ fn a_writer_without_room_fails(rt: HostRuntime) -> Result<(), Fail> {
 #[test]
 fn a_file_of_the_host_is_loaded_whole(rt: HostRuntime) -> Result<(), Fail> {
     let mut path = env::temp_dir(&rt)?;
-    path.push("tx_io_loads_this_file")?;
+    path.push(format!(in rt.alloc(); "tx_io_loads_this_file_{}", process::id(rt.process()))?)?;
     let path = path.as_path().to_str();
     let name = path.ok_or("no text")?;
     fs::write(&rt, name, b"some bytes\xff")?;
