@@ -8,7 +8,7 @@ use Rattle.tx_select.specs.Grammar.{IsWhole}
 use Rattle.tx_select.specs.SelectorReading.{Read, whole_at}
 use Rattle.tx_select.specs.Texts.{tokens_of, end_of, place_of, IsSelectorText, StopsAtByte, StopsAtToken, judged, selector_of, told, IsFirstFault}
 use Rattle.tx_select.specs.declared.value.Compound.{Compound}
-use Rattle.tx_select.specs.declared.value.Selector.{Selector}
+use Rattle.tx_select.specs.SelectorValue.{SelectorValue}
 use Rattle.tx_select.specs.declared.fault.SelectKind.{SelectKind}
 use Rattle.tx_select.specs.declared.fault.SelectFault.{SelectFault}
 use Rattle.tx_select.specs.declared.fault.SelectFault.TheVariants.{Grammar, NoMemory}
@@ -16,34 +16,34 @@ use Rattle.tx_select.proofs.FoundWhole.{whole-found}
 use Rattle.tx_select.proofs.AgainWhole.{whole-again}
 use Rattle.tx_select.proofs.Local.{faults-first}
 
-abbrev IsJudged : Result Selector ℕ → Selector → Type 0
+abbrev IsJudged : Result SelectorValue ℕ → SelectorValue → Type 0
 IsJudged found selector = found ≡ Ok selector
 
-judged-some : (one other : Selector) → IsJudged (Ok one) other → one ≡ other
+judged-some : (one other : SelectorValue) → IsJudged (Ok one) other → one ≡ other
 judged-some one other is = cc
 
-judged-none : (place : ℕ) (selector : Selector) → IsJudged (Err place) selector → ⊥
+judged-none : (place : ℕ) (selector : SelectorValue) → IsJudged (Err place) selector → ⊥
 judged-none place selector is = cc
 
-abbrev IsRefused : Result Selector ℕ → ℕ → Type 0
+abbrev IsRefused : Result SelectorValue ℕ → ℕ → Type 0
 IsRefused found place = found ≡ Err place
 
 refused-at : (one other : ℕ) → IsRefused (Err one) other → one ≡ other
 refused-at one other is = cc
 
-not-refused : (selector : Selector) (place : ℕ) → IsRefused (Ok selector) place → ⊥
+not-refused : (selector : SelectorValue) (place : ℕ) → IsRefused (Ok selector) place → ⊥
 not-refused selector place is = cc
 
-found-text : (text : List ℕ) (selector : Selector) (fault : Option Fault) (read : Read (List Compound)) → (lexed text).fault ≡ fault → whole_at (tokens_of text) ≡ read
+found-text : (text : List ℕ) (selector : SelectorValue) (fault : Option Fault) (read : Read (List Compound)) → (lexed text).fault ≡ fault → whole_at (tokens_of text) ≡ read
     → IsJudged (judged text fault read) selector → IsSelectorText text selector
 found-text text selector None (Ok found) sound is judges =
-    let same : found.0 ≡ selector.compounds = ap (λ (s : Selector). s.compounds) (judged-some (record { compounds = found.0 }) selector judges) in
+    let same : found.0 ≡ selector.compounds = ap (λ (s : SelectorValue). s.compounds) (judged-some (record { compounds = found.0 }) selector judges) in
     record { sound = sound; grammar = subst (IsWhole (tokens_of text)) same (whole-found (tokens_of text) found.1 found.0 is) }
 found-text text selector (Some fault) (Ok found) sound is judges = absurd (judged-none fault.place selector judges)
 found-text text selector None (Err wrong) sound is judges = absurd (judged-none (place_of (end_of text None) wrong.1) selector judges)
 found-text text selector (Some fault) (Err wrong) sound is judges = absurd (judged-none (place_of (end_of text (Some fault)) wrong.1) selector judges)
 
-text-again : (text : List ℕ) (selector : Selector) → IsSelectorText text selector → selector_of text ≡ Ok selector
+text-again : (text : List ℕ) (selector : SelectorValue) → IsSelectorText text selector → selector_of text ≡ Ok selector
 unfolding selector_of
 text-again text selector is =
     ap (judged text (lexed text).fault) (whole-again (tokens_of text) selector.compounds is.grammar)
@@ -71,19 +71,19 @@ fault-text text place None (Err wrong) sound is judges = inr (stops-token text p
 fault-text text place (Some fault) (Err wrong) sound is judges = inr (stops-token text place wrong.0 wrong.1 (Some fault) sound is (refused-at (place_of (end_of text (Some fault)) wrong.1) place judges))
 
 -- the selector of a text, or the place of its first fault
-abbrev pub GivesSelector : Result Selector SelectFault → Result Selector ℕ → Type 0
-GivesSelector = Gives {R = Selector} {A = Selector} (λ selector. selector) told
+abbrev pub GivesSelector : Result SelectorValue SelectFault → Result SelectorValue ℕ → Type 0
+GivesSelector = Gives {R = SelectorValue} {A = SelectorValue} (λ selector. selector) told
 
-pub clause-found : (text : List ℕ) (result : Result Selector SelectFault) → GivesSelector result (selector_of text) → IfOk result (λ selector. IsSelectorText text selector)
+pub clause-found : (text : List ℕ) (result : Result SelectorValue SelectFault) → GivesSelector result (selector_of text) → IfOk result (λ selector. IsSelectorText text selector)
 unfolding selector_of
 clause-found text (Ok selector) gives = found-text text selector (lexed text).fault (whole_at (tokens_of text)) refl refl gives
 clause-found text (Err (Grammar place)) gives = tt
 clause-found text (Err NoMemory) gives = tt
 
-pub clause-only : (text : List ℕ) (result : Result Selector SelectFault) → GivesSelector result (selector_of text) → (selector : Selector) → IsSelectorText text selector → GivesSelector result (Ok selector)
+pub clause-only : (text : List ℕ) (result : Result SelectorValue SelectFault) → GivesSelector result (selector_of text) → (selector : SelectorValue) → IsSelectorText text selector → GivesSelector result (Ok selector)
 clause-only text result gives selector is = subst (GivesSelector result) (text-again text selector is) gives
 
-pub clause-fault : (text : List ℕ) (result : Result Selector SelectFault) → GivesSelector result (selector_of text) → IfErr result (λ fault. IsFirstFault text fault)
+pub clause-fault : (text : List ℕ) (result : Result SelectorValue SelectFault) → GivesSelector result (selector_of text) → IfErr result (λ fault. IsFirstFault text fault)
 unfolding selector_of
 clause-fault text (Ok selector) gives = tt
 clause-fault text (Err (Grammar place)) gives = fault-text text place (lexed text).fault (whole_at (tokens_of text)) refl refl gives

@@ -5,7 +5,7 @@ use Rattle.tx_lex.specs.Lexemes.{Lexeme, lexemes_from}
 use Rattle.tx_lex.specs.declared.token.Token.{Token}
 use Rattle.tx_select.specs.SelectorReading.{Read}
 use Rattle.tx_select.specs.declared.value.Compound.{Compound}
-use Rattle.tx_select.specs.declared.value.Selector.{Selector}
+use Rattle.tx_select.specs.SelectorValue.{SelectorValue}
 use Rattle.tx_select.specs.declared.fault.SelectKind.{SelectKind}
 use Rattle.tx_select.specs.declared.fault.TokenFault.{TokenFault}
 use Rattle.tx_select.specs.declared.fault.TokenFault.TheVariants.{At, NoMemory}
@@ -20,7 +20,7 @@ abbrev pub with_rest : {A : Type 0} → List ℕ → List Token → A × ℕ →
 with_rest text tokens found = (found.0, lexemes_from text tokens found.1)
 
 -- the compounds of a selector that was read, and the tokens behind it
-abbrev pub compounds_with_rest : List ℕ → List Token → Selector × ℕ → List Compound × List Lexeme
+abbrev pub compounds_with_rest : List ℕ → List Token → SelectorValue × ℕ → List Compound × List Lexeme
 compounds_with_rest text tokens found = (found.0.compounds, lexemes_from text tokens found.1)
 
 -- what a reader answers from a token on is what is read there

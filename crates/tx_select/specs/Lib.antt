@@ -4,5 +4,6 @@ pub mod Laws
 pub mod Lexemes
 pub mod Pseudo
 pub mod SelectorReading
+pub mod SelectorValue
 pub mod Specificity
 pub mod Texts

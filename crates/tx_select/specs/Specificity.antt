@@ -1,10 +1,9 @@
 -- How many parts of each sort a selector has.
-use Rattle.std.specs.Prelude.{◌<◌, ◌≤◌, ◌^◌, ℕ, Bool, true, false, List, length, is_some}
+use Rattle.std.specs.Prelude.{ℕ, Bool, true, false, List, is_some}
 use Rattle.std.specs.List.{count_by, sum_by}
 use Rattle.tx_select.specs.declared.value.Part.{Part}
 use Rattle.tx_select.specs.declared.value.Part.TheVariants.{Id, Class, Pseudo}
 use Rattle.tx_select.specs.declared.value.Compound.{Compound}
-use Rattle.tx_select.specs.declared.value.Selector.{Selector}
 
 abbrev pub is_id : Part → Bool
 is_id (Id name) = true
@@ -30,8 +29,3 @@ classes compounds = sum_by (λ compound. count_by is_class compound.parts) compo
 
 abbrev pub types : List Compound → ℕ
 types compounds = count_by has_kind compounds
-
--- at most 16 compounds, with fewer than 2^32 parts in all
-pub record IsSmall (selector : Selector) : Type 0 where
-  pub compounds : length selector.compounds ≤ 16
-  pub parts : sum_by (λ compound. length compound.parts) selector.compounds < 2 ^ 32

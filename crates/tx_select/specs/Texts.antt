@@ -6,7 +6,7 @@ use Rattle.tx_lex.specs.Lexemes.{Lexeme, lexemes}
 use Rattle.tx_select.specs.Grammar.{IsWhole}
 use Rattle.tx_select.specs.SelectorReading.{Read, whole_at}
 use Rattle.tx_select.specs.declared.value.Compound.{Compound}
-use Rattle.tx_select.specs.declared.value.Selector.{Selector}
+use Rattle.tx_select.specs.SelectorValue.{SelectorValue}
 use Rattle.tx_select.specs.declared.fault.SelectFault.{SelectFault}
 use Rattle.tx_select.specs.declared.fault.SelectFault.TheVariants.{Grammar, NoMemory}
 
@@ -24,7 +24,7 @@ place_of end [] = end
 place_of end (t ∷ ts) = t.place
 
 -- the text is this selector
-pub record IsSelectorText (text : List ℕ) (selector : Selector) : Type 0 where
+pub record IsSelectorText (text : List ℕ) (selector : SelectorValue) : Type 0 where
   pub sound : (lexed text).fault ≡ None
   pub grammar : IsWhole (tokens_of text) selector.compounds
 
@@ -49,12 +49,12 @@ pub record StopsAtToken (text : List ℕ) (place : ℕ) : Type 0 where
   pub at : place ≡ place_of (end_of text (lexed text).fault) rest
 
 -- the selector of a text, or the place of its first fault
-abbrev pub judged : List ℕ → Option Fault → Read (List Compound) → Result Selector ℕ
+abbrev pub judged : List ℕ → Option Fault → Read (List Compound) → Result SelectorValue ℕ
 judged text None (Ok found) = Ok (record { compounds = found.0 })
 judged text (Some fault) (Ok found) = Err fault.place
 judged text fault (Err wrong) = Err (place_of (end_of text fault) wrong.1)
 
-unfoldable pub selector_of : List ℕ → Result Selector ℕ
+unfoldable pub selector_of : List ℕ → Result SelectorValue ℕ
 selector_of text = judged text (lexed text).fault (whole_at (tokens_of text))
 
 -- what a fault tells: its place

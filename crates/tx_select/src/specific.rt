@@ -1,5 +1,5 @@
 //! How specific a selector is.
-ghost use Rattle.std.specs.Prelude.{◌≡◌, ◌-◌, ◌^◌, min};
+ghost use Rattle.std.specs.Prelude.{◌≡◌, ◌<◌, ◌^◌};
 ghost use Rattle.std.specs.List.{count_by};
 ghost use Rattle.tx_select.specs.Specificity.{is_id, is_class, has_kind, ids, classes, types};
 
@@ -47,51 +47,40 @@ fn classes_of(compound: &Compound) -> usize
         .count()
 }
 
-/// The count, or the greatest one of its type where it is above that.
-fn capped(count: usize) -> u32
-    ensures { result ≡ min count (2 ^ 32 - 1) }
-{
-    count.min(u32::MAX as usize) as u32
-}
-
 fn ids(compounds: &[Compound]) -> u32
-    ensures { result ≡ min (ids compounds.now) (2 ^ 32 - 1) }
+    requires { ids compounds.now < 2 ^ 32 }
+    ensures { result ≡ ids compounds.now }
 {
-    let mut count = 0u32;
-    for compound in compounds {
-        count = count.saturating_add(capped(ids_of(compound)));
-    }
-    count
+    let count: usize = compounds.iter().map(ids_of).sum();
+    count as u32
 }
 
 fn classes(compounds: &[Compound]) -> u32
-    ensures { result ≡ min (classes compounds.now) (2 ^ 32 - 1) }
+    requires { classes compounds.now < 2 ^ 32 }
+    ensures { result ≡ classes compounds.now }
 {
-    let mut count = 0u32;
-    for compound in compounds {
-        count = count.saturating_add(capped(classes_of(compound)));
-    }
-    count
+    let count: usize = compounds.iter().map(classes_of).sum();
+    count as u32
 }
 
 fn types(compounds: &[Compound]) -> u32
-    ensures { result ≡ min (types compounds.now) (2 ^ 32 - 1) }
+    requires { types compounds.now < 2 ^ 32 }
+    ensures { result ≡ types compounds.now }
 {
     let count = compounds
         .iter()
         .filter(|compound| has_kind(compound))
         .count();
-    capped(count)
+    count as u32
 }
 
 /// How many ids, how many classes and pseudo-classes, and how many names of kinds a selector has.
-/// A count that would pass 4,294,967,295 stands there, which no selector of fewer than 2^32 parts
-/// comes to. It takes no memory.
+/// It takes no memory.
 pub fn specificity(selector: &Selector) -> (u32, u32, u32)
-    ensures ids { result.0 ≡ min (ids selector.now.compounds) (2 ^ 32 - 1) }
-    ensures classes { result.1 ≡ min (classes selector.now.compounds) (2 ^ 32 - 1) }
-    ensures types { result.2 ≡ min (types selector.now.compounds) (2 ^ 32 - 1) }
+    ensures ids { result.0 ≡ ids selector.now.compounds }
+    ensures classes { result.1 ≡ classes selector.now.compounds }
+    ensures types { result.2 ≡ types selector.now.compounds }
 {
-    let compounds = selector.compounds.as_slice();
+    let compounds = selector.compounds().as_slice();
     (ids(compounds), classes(compounds), types(compounds))
 }

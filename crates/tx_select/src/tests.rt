@@ -27,7 +27,7 @@ fn push_part(spelled: &mut String, part: &Part) -> Result<(), AllocError> {
 /// the first, and `*` only where nothing else stands.
 fn spelling(alloc: Global, selector: &Selector) -> Result<String, AllocError> {
     let mut spelled = String::new(alloc);
-    for (i, compound) in selector.compounds.as_slice().iter().enumerate() {
+    for (i, compound) in selector.compounds().as_slice().iter().enumerate() {
         if compound.child {
             spelled.push_str(">")?;
         } else if i > 0 {

@@ -2,11 +2,10 @@
 ghost use Rattle.std.specs.Prelude.{◌≡◌, ◌<◌, ◌≤◌, ◌^◌, ℕ, List, length, IfOk, IfErr, Ok};
 ghost use Rattle.tx_lex.specs.Lexemes.{lexemes, lexemes_from};
 ghost use Rattle.tx_select.specs.SelectorReading.{selector_at, whole_at, ended};
-ghost use Rattle.tx_select.specs.Specificity.{IsSmall};
+ghost use Rattle.tx_select.specs.SelectorValue.{SelectorValue};
 ghost use Rattle.tx_read.specs.Answer.{Gives};
 ghost use Rattle.tx_select.specs.Answers.{told_in, compounds_with_rest, GivesAmong};
 ghost use Rattle.tx_select.specs.Texts.{told, end_of, place_of, selector_of, IsSelectorText, IsFirstFault};
-ghost use Rattle.tx_select.specs.declared.value.Selector.{Selector};
 
 use crate::fault::{SelectFault, TokenFault};
 use crate::reader::{compounds, expected, spaces};
@@ -17,18 +16,19 @@ use tx_lex::{Fault, Scanned, Token, scan, token_at};
 /// Reads the selector that begins at the token of this number, with the spaces and comments behind
 /// it, and answers it with the number of the token behind them. It reads as far as a selector can
 /// go on, so that what may stand behind it is for the caller to judge. The tokens are those of
-/// `text`. `At` is the first token that the grammar doesn't allow.
+/// `text`, fewer than 2^32. `At` is the first token that the grammar doesn't allow.
 pub fn selector_at(
     alloc: Global,
     text: &[u8],
     tokens: &[Token],
     at: usize,
 ) -> Result<(Selector, usize), TokenFault>
+    requires { length tokens.now < 2 ^ 32 }
     ensures gives { Gives (compounds_with_rest text.now tokens.now) (told_in text.now tokens.now) result (selector_at (lexemes_from text.now tokens.now at)) }
     ensures behind { IfOk result (λ found. at ≤ found.1) }
 {
     let (compounds, behind) = compounds(alloc, text, tokens, at)?;
-    Ok((Selector { compounds }, behind))
+    Ok((Selector::of(compounds), behind))
 }
 
 /// The tokens are one selector with spaces and comments round it.
@@ -78,14 +78,13 @@ fn place_of(tokens: &[Token], at: usize, end: u32) -> u32
 fn read(alloc: Global, text: &str) -> Result<Selector, SelectFault>
     requires { length text.now < 2 ^ 32 }
     ensures exact { Gives (λ selector. selector) told result (selector_of text.now) }
-    ensures small { IfOk result (λ selector. IsSmall selector) }
 {
     let text = text.as_bytes();
     let Scanned { tokens, fault } = scan(alloc, text)?;
     match whole(alloc, text, tokens.as_slice()) {
         Ok(found) => match fault {
             Some(fault) => Err(SelectFault::Grammar { place: fault.place }),
-            None => Ok(Selector { compounds: found.0 }),
+            None => Ok(Selector::of(found.0)),
         },
         Err(TokenFault::At { kind: _, at }) => Err(SelectFault::Grammar {
             place: place_of(tokens.as_slice(), at, end_of(text, fault)),
@@ -101,10 +100,8 @@ pub fn read_selector(alloc: Global, text: &str) -> Result<Selector, SelectFault>
     requires { length text.now < 2 ^ 32 }
     // What is read is in the grammar.
     ensures found { IfOk result (λ selector. IsSelectorText text.now selector) }
-    // It has few enough parts to be counted.
-    ensures small { IfOk result (λ selector. IsSmall selector) }
     // What is in the grammar is read, unless memory is wanting.
-    ensures only { (selector : Selector) → IsSelectorText text.now selector → Gives (λ selector. selector) told result (Ok selector) }
+    ensures only { (selector : SelectorValue) → IsSelectorText text.now selector → Gives (λ selector. selector) told result (Ok selector) }
     // A fault is the first one.
     ensures fault { IfErr result (λ fault. IsFirstFault text.now fault) }
     ensures exact { Gives (λ selector. selector) told result (selector_of text.now) }

@@ -2,6 +2,7 @@
 ghost use Rattle.std.specs.Prelude.{◌≡◌, IfOk};
 
 use std::alloc::Global;
+use std::marker::Model;
 use tx_text::{Items, Name, NoMemory};
 use tx_tree::NodeId;
 
@@ -92,13 +93,41 @@ fn copy_of(alloc: Global, compounds: &[Compound]) -> Result<Compounds, NoMemory>
 }
 
 /// A selector: at most 16 compounds, with fewer than 2^32 parts in all. It selects the rows that
-/// the last compound fits, below rows that the compounds before it fit.
+/// the last compound fits, below rows that the compounds before it fit. It is made by reading alone.
 #[derive(Debug, Drop)]
 pub struct Selector {
-    pub compounds: Compounds,
+    compounds: Compounds,
+}
+
+impl Model for Selector {
+    ghost use Rattle.tx_select.specs.SelectorValue.{SelectorValue, IsSmall};
+
+    ghost Value = { SelectorValue };
+
+    ghost view = { λ s. record { compounds = s.compounds } };
+
+    ghost invariant = { λ s. IsSmall s.compounds };
 }
 
 impl Selector {
+    ghost use Rattle.tx_select.specs.SelectorValue.{IsSmall};
+
+    /// The selector of these compounds.
+    pub(crate) fn of(compounds: Compounds) -> Selector
+        requires { IsSmall compounds }
+        ensures { result ≡ record { compounds = compounds } }
+    {
+        Selector { compounds }
+    }
+
+    /// The compounds in their order.
+    pub fn compounds(&self) -> &Compounds
+        ensures compounds { result.now ≡ self.now.compounds }
+        ensures small { IsSmall self.now.compounds }
+    {
+        &self.compounds
+    }
+
     /// A second selector that equals this one.
     pub fn copy(&self) -> Result<Selector, NoMemory>
         ensures { IfOk result (λ s. s ≡ self.now) }
