@@ -1,2 +1,3 @@
 -- The lemmas that proofs of crates above may cite.
 pub mod NumbersAndIds
+pub mod Kinds

@@ -1,10 +1,10 @@
 -- What the edits of a tree do, and when they are refused.
 use Rattle.std.specs.Prelude.{ℕ, ◌==◌, ◌||◌, Bool, false, not, if◌then◌else◌, List, [], ◌∷◌, length, map, Option, Some, None, is_none, option_map, nat_eq}
 use Rattle.std.specs.Option.{option_eq, option_map_or}
+use Rattle.tx_tree.specs.Kind.{private_at}
 use Rattle.tx_tree.specs.Row.{number, has_number}
 use Rattle.tx_tree.specs.Rows.{row_at, parent_of}
 use Rattle.tx_tree.specs.declared.kind.Private.{Private}
-use Rattle.tx_tree.specs.declared.kind.Private.TheVariants.{Plain, Cursor, On, Chosen, Bar}
 use Rattle.tx_tree.specs.declared.row.Row.{Row}
 use Rattle.tx_tree.specs.declared.fault.TreeFault.{TreeFault}
 use Rattle.tx_tree.specs.declared.fault.TreeFault.TheVariants.{NoNode, Root, NotSiblings}
@@ -39,14 +39,6 @@ move_refusal rows n before =
 -- the rows with the row of a number changed
 abbrev pub changed_at : ℕ → (Row → Row) → List Row → List Row
 changed_at n change rows = map (λ row. if has_number n row then change row else row) rows
-
--- the private state once the text is so long: a cursor stands at its end, and the first line is chosen
-abbrev pub private_at : ℕ → Private → Private
-private_at size Plain = Plain
-private_at size (Cursor place) = Cursor size
-private_at size (On b) = On b
-private_at size (Chosen line) = Chosen 0
-private_at size (Bar done total) = Bar done total
 
 -- a row with another text
 abbrev pub with_text : List ℕ → Row → Row

@@ -1,15 +1,15 @@
 -- Which rows have a spelling in a tree file.
-use Rattle.std.specs.Prelude.{ℕ, ◌==◌, ◌&&◌, ◌||◌, Bool, true, false, not, nat_le, List, [], ◌∷◌, codes}
-use Rattle.std.specs.List.{list_all, list_any}
+use Rattle.std.specs.Prelude.{ℕ, ◌==◌, ◌&&◌, ◌||◌, Bool, true, false, not, nat_le, List, [], ◌∷◌, is_some}
+use Rattle.std.specs.List.{list_all}
 use Rattle.std.specs.Char.{is_ascii_uppercase}
-use Rattle.std.specs.Str.{bytes_eq}
 use Rattle.tx_tree.specs.Classes.{has_name}
+use Rattle.tx_tree.specs.Kind.{kind_named, has_form}
 use Rattle.tx_tree.specs.declared.bind.Key.{Key}
 use Rattle.tx_tree.specs.declared.bind.Key.TheVariants.{Char, Function, Ctrl}
 use Rattle.tx_tree.specs.declared.kind.Kind.{Kind}
-use Rattle.tx_tree.specs.declared.kind.Kind.TheVariants.{Checkbox, Input, OptionList, ProgressBar, Handed}
+use Rattle.tx_tree.specs.declared.kind.Kind.TheVariants.{Handed}
 use Rattle.tx_tree.specs.declared.kind.Private.{Private}
-use Rattle.tx_tree.specs.declared.kind.Private.TheVariants.{Plain, Cursor, On, Chosen, Bar}
+use Rattle.tx_tree.specs.declared.kind.Private.TheVariants.{Bar}
 use Rattle.tx_tree.specs.declared.row.Row.{Row}
 
 -- no name stands twice
@@ -17,17 +17,9 @@ abbrev pub no_repeats : List (List ℕ) → Bool
 no_repeats [] = true
 no_repeats (name ∷ names) = not (has_name name names) && no_repeats names
 
--- the names of the built-in kinds that may have children
-abbrev pub container_names : List (List ℕ)
-container_names = codes "Screen" ∷ (codes "Container" ∷ (codes "Vertical" ∷ (codes "Horizontal" ∷ (codes "Grid" ∷ (codes "VerticalScroll" ∷ [])))))
-
--- the names of the others
-abbrev pub leaf_names : List (List ℕ)
-leaf_names = codes "Static" ∷ (codes "Label" ∷ (codes "Button" ∷ (codes "Checkbox" ∷ (codes "Input" ∷ (codes "OptionList" ∷ (codes "ProgressBar" ∷ (codes "Header" ∷ (codes "Footer" ∷ []))))))))
-
 -- whether a name is that of a built-in kind
 abbrev pub is_built_in : List ℕ → Bool
-is_built_in name = list_any (bytes_eq name) container_names || list_any (bytes_eq name) leaf_names
+is_built_in name = is_some (kind_named name)
 
 -- whether the first byte is a capital letter
 abbrev pub begins_capital : List ℕ → Bool
@@ -54,35 +46,14 @@ key_is_spelled (Function n) = nat_le 1 n && nat_le n 12
 key_is_spelled (Ctrl byte) = nat_le 97 byte && nat_le byte 122
 key_is_spelled _ = true
 
--- whether a private state is of one form
-abbrev pub is_plain : Private → Bool
-is_plain Plain = true
-is_plain _ = false
+-- whether the total of a progress bar has a spelling
+abbrev pub total_is_spelled : Private → Bool
+total_is_spelled (Bar done total) = nat_le 1 total && nat_le total 1000000
+total_is_spelled _ = true
 
-abbrev pub is_cursor : Private → Bool
-is_cursor (Cursor place) = true
-is_cursor _ = false
-
-abbrev pub is_on : Private → Bool
-is_on (On b) = true
-is_on _ = false
-
-abbrev pub is_chosen : Private → Bool
-is_chosen (Chosen line) = true
-is_chosen _ = false
-
--- with a total from 1 to 1,000,000
-abbrev pub is_bar : Private → Bool
-is_bar (Bar done total) = nat_le 1 total && nat_le total 1000000
-is_bar _ = false
-
--- whether a private state is of the form that the kind has
+-- whether a private state has a spelling at a kind: it is of the kind's form
 abbrev pub private_is_spelled : Kind → Private → Bool
-private_is_spelled Checkbox private = is_on private
-private_is_spelled Input private = is_cursor private
-private_is_spelled OptionList private = is_chosen private
-private_is_spelled ProgressBar private = is_bar private
-private_is_spelled _ private = is_plain private
+private_is_spelled kind private = has_form kind private && total_is_spelled private
 
 -- whether a row has a spelling
 abbrev pub is_spelled : Row → Bool

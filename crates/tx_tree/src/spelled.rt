@@ -1,9 +1,8 @@
 //! Which rows have a spelling in a tree file.
 
 ghost use Rattle.std.specs.Prelude.{◌≡◌};
-ghost use Rattle.std.specs.List.{list_all, list_any};
-ghost use Rattle.std.specs.Str.{bytes_eq};
-ghost use Rattle.tx_tree.specs.Spelled.{no_repeats, container_names, leaf_names, is_built_in, kind_is_spelled, begins_capital, byte_is_spelled, no_line_feed, key_is_spelled, private_is_spelled, is_bar, is_spelled};
+ghost use Rattle.std.specs.List.{list_all};
+ghost use Rattle.tx_tree.specs.Spelled.{no_repeats, kind_is_spelled, begins_capital, byte_is_spelled, no_line_feed, key_is_spelled, private_is_spelled, total_is_spelled, is_spelled};
 
 use crate::classes::has_name;
 use crate::{Bind, Key, Kind, Name, Private, Row};
@@ -40,7 +39,8 @@ fn kind_is_spelled(kind: Kind) -> bool
     ensures { result ≡ kind_is_spelled kind }
 {
     match kind {
-        Kind::Handed(name) => begins_capital(name.as_bytes()) && !is_built_in(name.as_str()),
+        Kind::Handed(name) => begins_capital(name.as_bytes())
+            && Kind::named(name.as_str()).is_none(),
         _ => true,
     }
 }
@@ -53,38 +53,6 @@ pub fn begins_capital(bytes: &[u8]) -> bool
         [first, ..] => first.is_ascii_uppercase(),
         [] => false,
     }
-}
-
-// Whether a name is that of a built-in kind.
-fn is_built_in(name: &str) -> bool
-    ensures { result ≡ is_built_in name.now }
-{
-    is_container(name) || is_leaf(name)
-}
-
-fn is_container(name: &str) -> bool
-    ensures { result ≡ list_any (bytes_eq name.now) container_names }
-{
-    name == "Screen"
-        || name == "Container"
-        || name == "Vertical"
-        || name == "Horizontal"
-        || name == "Grid"
-        || name == "VerticalScroll"
-}
-
-fn is_leaf(name: &str) -> bool
-    ensures { result ≡ list_any (bytes_eq name.now) leaf_names }
-{
-    name == "Static"
-        || name == "Label"
-        || name == "Button"
-        || name == "Checkbox"
-        || name == "Input"
-        || name == "OptionList"
-        || name == "ProgressBar"
-        || name == "Header"
-        || name == "Footer"
 }
 
 // Whether a text has a spelling.
@@ -126,25 +94,19 @@ fn key_is_spelled(key: Key) -> bool
     }
 }
 
-// Whether a private state is of the form that the kind has.
+// Whether a private state has a spelling at a kind.
 fn private_is_spelled(kind: Kind, private: Private) -> bool
     ensures { result ≡ private_is_spelled kind private }
 {
-    match kind {
-        Kind::Input => matches!(private, Private::Cursor(_)),
-        Kind::Checkbox => matches!(private, Private::On(_)),
-        Kind::OptionList => matches!(private, Private::Chosen(_)),
-        Kind::ProgressBar => is_bar(private),
-        _ => matches!(private, Private::Plain),
-    }
+    private.has_form(kind) && total_is_spelled(private)
 }
 
-// Whether this is the state of a progress bar whose total has a spelling.
-fn is_bar(private: Private) -> bool
-    ensures { result ≡ is_bar private }
+// Whether the total of a progress bar has a spelling.
+fn total_is_spelled(private: Private) -> bool
+    ensures { result ≡ total_is_spelled private }
 {
     match private {
         Private::Bar { total, .. } => 1 <= total && total <= MOST_TOTAL,
-        _ => false,
+        _ => true,
     }
 }

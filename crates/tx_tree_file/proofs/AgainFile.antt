@@ -5,12 +5,13 @@ use Rattle.std.specs.List.{list_all}
 use Rattle.std.specs.Option.{option_map_or}
 use Rattle.std.proofs.lemmas.Bool.{false≢true, ne_eqb}
 use Rattle.tx_read.specs.Pieces.{pieces, onto}
-use Rattle.tx_tree.specs.Kind.{is_screen, holds_children}
+use Rattle.tx_tree.proofs.lemmas.Kinds.{of_kinds}
+use Rattle.tx_tree.specs.Kind.{is_screen, holds_children, first_state, private_at, is_alike, has_form}
 use Rattle.tx_tree.specs.Mount.{is_taken}
 use Rattle.tx_tree.specs.Row.{placed}
 use Rattle.tx_tree.specs.Rows.{last_above}
 use Rattle.tx_text.specs.Name.{is_name}
-use Rattle.tx_tree.specs.Spelled.{is_spelled, key_is_spelled, no_line_feed, private_is_spelled}
+use Rattle.tx_tree.specs.Spelled.{is_spelled, key_is_spelled, no_line_feed, private_is_spelled, total_is_spelled}
 use Rattle.tx_tree.specs.WellFormed.{MayFollow, MayAllFollow, IsPreorder}
 use Rattle.tx_tree.specs.TreeValue.{TreeValue}
 use Rattle.tx_tree.specs.declared.bind.Bind.{Bind}
@@ -49,7 +50,6 @@ use Rattle.tx_tree.specs.declared.bind.Jump.TheVariants.{Up as JumpUp, Down as J
 use Rattle.tx_tree.specs.declared.bind.Key.{Key}
 use Rattle.tx_tree.specs.declared.bind.Key.TheVariants.{Char, Enter, Escape, Tab, ShiftTab, Backspace, Delete, Up, Down, Left, Right, Home, End, PageUp, PageDown, Function, Ctrl}
 use Rattle.tx_tree.specs.declared.kind.Kind.{Kind}
-use Rattle.tx_tree.specs.declared.kind.Kind.TheVariants.{Screen, Container, Vertical, Horizontal, Grid, VerticalScroll, Static, Label, Button, Checkbox, Input, OptionList, ProgressBar, Header, Footer, Handed}
 use Rattle.tx_tree.specs.declared.kind.Private.{Private}
 use Rattle.tx_tree.specs.declared.kind.Private.TheVariants.{Plain, Cursor, On, Chosen, Bar}
 use Rattle.tx_tree_file.proofs.AgainParts.{decimal-digits, not_inv}
@@ -94,22 +94,8 @@ blanks-free zero = refl
 blanks-free (suc n) = blanks-free n
 
 kind-free : (kind : Kind) → kind_is_typed kind ≡ true → Free (kind_name kind)
-kind-free (Handed name) h = name-free name h
-kind-free Screen h = refl
-kind-free Container h = refl
-kind-free Vertical h = refl
-kind-free Horizontal h = refl
-kind-free Grid h = refl
-kind-free VerticalScroll h = refl
-kind-free Static h = refl
-kind-free Label h = refl
-kind-free Button h = refl
-kind-free Checkbox h = refl
-kind-free Input h = refl
-kind-free OptionList h = refl
-kind-free ProgressBar h = refl
-kind-free Header h = refl
-kind-free Footer h = refl
+kind-free = of_kinds (λ kind. kind_is_typed kind ≡ true → Free (kind_name kind)) (λ kind. list_all no_line_feed (kind_name kind)) refl
+    (λ kind found e h. e) name-free
 
 id-free : (id : Option (List ℕ)) → id_is_typed id ≡ true → Free (id_part id)
 id-free None h = refl
@@ -133,22 +119,9 @@ private-free kind (On false) h = refl
 private-free kind Plain h = refl
 private-free kind (Cursor place) h = refl
 private-free kind (Chosen line) h = refl
-private-free ProgressBar (Bar done total) h = total-free (total == 100) total (leb-true total 1000000 (and_parts (nat_le 1 total) _ h).1)
-private-free Screen (Bar done total) h = absurd (false≢true h)
-private-free Container (Bar done total) h = absurd (false≢true h)
-private-free Vertical (Bar done total) h = absurd (false≢true h)
-private-free Horizontal (Bar done total) h = absurd (false≢true h)
-private-free Grid (Bar done total) h = absurd (false≢true h)
-private-free VerticalScroll (Bar done total) h = absurd (false≢true h)
-private-free Static (Bar done total) h = absurd (false≢true h)
-private-free Label (Bar done total) h = absurd (false≢true h)
-private-free Button (Bar done total) h = absurd (false≢true h)
-private-free Checkbox (Bar done total) h = absurd (false≢true h)
-private-free Input (Bar done total) h = absurd (false≢true h)
-private-free OptionList (Bar done total) h = absurd (false≢true h)
-private-free Header (Bar done total) h = absurd (false≢true h)
-private-free Footer (Bar done total) h = absurd (false≢true h)
-private-free (Handed name) (Bar done total) h = absurd (false≢true h)
+private-free kind (Bar done total) h =
+    let range = (and_parts (has_form kind (Bar done total)) _ h).1 in
+    total-free (total == 100) total (leb-true total 1000000 (and_parts (nat_le 1 total) _ range).1)
 
 escaped-free : (b : ℕ) → Free (escaped b)
 escaped-free b = by (b == 34) (b == 92) (b == 10) refl
@@ -527,88 +500,49 @@ gives-rows rows read (Err NotSiblings) e h = absurd h
 
 -- ---- rows numbered anew
 
+-- a state that a file doesn't keep, at a kind that begins with this one
+abbrev IsFresh : Kind → Private → ℕ → Type 0
+IsFresh kind first size =
+    (private_part (private_at size first) ≡ [])
+    × ((is_alike first (private_at size first) && total_is_spelled (private_at size first)) ≡ true)
+    × (kept kind size (private_at size first) ≡ private_at size first)
+
+plain-fresh : (kind : Kind) (size : ℕ) (first : Private) → first_state kind ≡ first → is_alike first Plain ≡ true → IsFresh kind first size
+plain-fresh kind size Plain e h = (refl, refl, ap (private_at size) e)
+plain-fresh kind size (Cursor place) e h = absurd (false≢true h)
+plain-fresh kind size (On b) e h = absurd (false≢true h)
+plain-fresh kind size (Chosen line) e h = absurd (false≢true h)
+plain-fresh kind size (Bar done total) e h = absurd (false≢true h)
+
+cursor-fresh : (kind : Kind) (size place : ℕ) (first : Private) → first_state kind ≡ first → is_alike first (Cursor place) ≡ true → IsFresh kind first size
+cursor-fresh kind size place (Cursor p) e h = (refl, refl, ap (private_at size) e)
+cursor-fresh kind size place Plain e h = absurd (false≢true h)
+cursor-fresh kind size place (On b) e h = absurd (false≢true h)
+cursor-fresh kind size place (Chosen line) e h = absurd (false≢true h)
+cursor-fresh kind size place (Bar done total) e h = absurd (false≢true h)
+
+chosen-fresh : (kind : Kind) (size line : ℕ) (first : Private) → first_state kind ≡ first → is_alike first (Chosen line) ≡ true → IsFresh kind first size
+chosen-fresh kind size line (Chosen l) e h = (refl, refl, ap (private_at size) e)
+chosen-fresh kind size line Plain e h = absurd (false≢true h)
+chosen-fresh kind size line (Cursor place) e h = absurd (false≢true h)
+chosen-fresh kind size line (On b) e h = absurd (false≢true h)
+chosen-fresh kind size line (Bar done total) e h = absurd (false≢true h)
+
+bar-alike : (first : Private) (a b c d : ℕ) → is_alike first (Bar a b) ≡ is_alike first (Bar c d)
+bar-alike Plain a b c d = refl
+bar-alike (Cursor place) a b c d = refl
+bar-alike (On on) a b c d = refl
+bar-alike (Chosen line) a b c d = refl
+bar-alike (Bar done total) a b c d = refl
+
 -- a row that is read again is spelled as before
 kept-part : (kind : Kind) (size : ℕ) (private : Private) → private_is_spelled kind private ≡ true → (private_part (kept kind size private) ≡ private_part private) × (private_is_spelled kind (kept kind size private) ≡ true) × (kept kind size (kept kind size private) ≡ kept kind size private)
-kept-part Checkbox size (On b) h = (refl, refl, refl)
-kept-part ProgressBar size (Bar done total) h = (refl, h, refl)
-kept-part Input size (Cursor place) h = (refl, refl, refl)
-kept-part OptionList size (Chosen line) h = (refl, refl, refl)
-kept-part Checkbox size Plain h = absurd (false≢true h)
-kept-part Checkbox size (Cursor place) h = absurd (false≢true h)
-kept-part Checkbox size (Chosen line) h = absurd (false≢true h)
-kept-part Checkbox size (Bar done total) h = absurd (false≢true h)
-kept-part ProgressBar size Plain h = absurd (false≢true h)
-kept-part ProgressBar size (Cursor place) h = absurd (false≢true h)
-kept-part ProgressBar size (On b) h = absurd (false≢true h)
-kept-part ProgressBar size (Chosen line) h = absurd (false≢true h)
-kept-part Input size Plain h = absurd (false≢true h)
-kept-part Input size (On b) h = absurd (false≢true h)
-kept-part Input size (Chosen line) h = absurd (false≢true h)
-kept-part Input size (Bar done total) h = absurd (false≢true h)
-kept-part OptionList size Plain h = absurd (false≢true h)
-kept-part OptionList size (Cursor place) h = absurd (false≢true h)
-kept-part OptionList size (On b) h = absurd (false≢true h)
-kept-part OptionList size (Bar done total) h = absurd (false≢true h)
-kept-part Screen size Plain h = (refl, refl, refl)
-kept-part Screen size (Cursor place) h = absurd (false≢true h)
-kept-part Screen size (On b) h = absurd (false≢true h)
-kept-part Screen size (Chosen line) h = absurd (false≢true h)
-kept-part Screen size (Bar done total) h = absurd (false≢true h)
-kept-part Container size Plain h = (refl, refl, refl)
-kept-part Container size (Cursor place) h = absurd (false≢true h)
-kept-part Container size (On b) h = absurd (false≢true h)
-kept-part Container size (Chosen line) h = absurd (false≢true h)
-kept-part Container size (Bar done total) h = absurd (false≢true h)
-kept-part Vertical size Plain h = (refl, refl, refl)
-kept-part Vertical size (Cursor place) h = absurd (false≢true h)
-kept-part Vertical size (On b) h = absurd (false≢true h)
-kept-part Vertical size (Chosen line) h = absurd (false≢true h)
-kept-part Vertical size (Bar done total) h = absurd (false≢true h)
-kept-part Horizontal size Plain h = (refl, refl, refl)
-kept-part Horizontal size (Cursor place) h = absurd (false≢true h)
-kept-part Horizontal size (On b) h = absurd (false≢true h)
-kept-part Horizontal size (Chosen line) h = absurd (false≢true h)
-kept-part Horizontal size (Bar done total) h = absurd (false≢true h)
-kept-part Grid size Plain h = (refl, refl, refl)
-kept-part Grid size (Cursor place) h = absurd (false≢true h)
-kept-part Grid size (On b) h = absurd (false≢true h)
-kept-part Grid size (Chosen line) h = absurd (false≢true h)
-kept-part Grid size (Bar done total) h = absurd (false≢true h)
-kept-part VerticalScroll size Plain h = (refl, refl, refl)
-kept-part VerticalScroll size (Cursor place) h = absurd (false≢true h)
-kept-part VerticalScroll size (On b) h = absurd (false≢true h)
-kept-part VerticalScroll size (Chosen line) h = absurd (false≢true h)
-kept-part VerticalScroll size (Bar done total) h = absurd (false≢true h)
-kept-part Static size Plain h = (refl, refl, refl)
-kept-part Static size (Cursor place) h = absurd (false≢true h)
-kept-part Static size (On b) h = absurd (false≢true h)
-kept-part Static size (Chosen line) h = absurd (false≢true h)
-kept-part Static size (Bar done total) h = absurd (false≢true h)
-kept-part Label size Plain h = (refl, refl, refl)
-kept-part Label size (Cursor place) h = absurd (false≢true h)
-kept-part Label size (On b) h = absurd (false≢true h)
-kept-part Label size (Chosen line) h = absurd (false≢true h)
-kept-part Label size (Bar done total) h = absurd (false≢true h)
-kept-part Button size Plain h = (refl, refl, refl)
-kept-part Button size (Cursor place) h = absurd (false≢true h)
-kept-part Button size (On b) h = absurd (false≢true h)
-kept-part Button size (Chosen line) h = absurd (false≢true h)
-kept-part Button size (Bar done total) h = absurd (false≢true h)
-kept-part Header size Plain h = (refl, refl, refl)
-kept-part Header size (Cursor place) h = absurd (false≢true h)
-kept-part Header size (On b) h = absurd (false≢true h)
-kept-part Header size (Chosen line) h = absurd (false≢true h)
-kept-part Header size (Bar done total) h = absurd (false≢true h)
-kept-part Footer size Plain h = (refl, refl, refl)
-kept-part Footer size (Cursor place) h = absurd (false≢true h)
-kept-part Footer size (On b) h = absurd (false≢true h)
-kept-part Footer size (Chosen line) h = absurd (false≢true h)
-kept-part Footer size (Bar done total) h = absurd (false≢true h)
-kept-part (Handed name) size Plain h = (refl, refl, refl)
-kept-part (Handed name) size (Cursor place) h = absurd (false≢true h)
-kept-part (Handed name) size (On b) h = absurd (false≢true h)
-kept-part (Handed name) size (Chosen line) h = absurd (false≢true h)
-kept-part (Handed name) size (Bar done total) h = absurd (false≢true h)
+kept-part kind size (On b) h = (refl, h, refl)
+kept-part kind size (Bar done total) h =
+    (refl, ap (λ (b : Bool). b && total_is_spelled (Bar done total)) (bar-alike (first_state kind) 0 total done total) ∙ h, refl)
+kept-part kind size Plain h = plain-fresh kind size (first_state kind) refl (and_parts (has_form kind Plain) _ h).0
+kept-part kind size (Cursor place) h = cursor-fresh kind size place (first_state kind) refl (and_parts (has_form kind (Cursor place)) _ h).0
+kept-part kind size (Chosen line) h = chosen-fresh kind size line (first_state kind) refl (and_parts (has_form kind (Chosen line)) _ h).0
 
 line-same : (n : ℕ) (row : Row) → is_typed row ≡ true → is_spelled row ≡ true → (row_lines (read_row n row) ≡ row_lines row) × (is_spelled (read_row n row) ≡ true) × (read_row n (read_row n row) ≡ read_row n row)
 line-same n row t s =

@@ -10,7 +10,8 @@ use Rattle.std.proofs.lemmas.Fmt.{decimal_nonempty}
 use Rattle.std.proofs.lemmas.Grind.{flat_map-append}
 use Rattle.std.proofs.lemmas.Str.{IsUtf8-from_is_utf8, is_utf8-from_IsUtf8, IsUtf8-from_ascii, IsUtf8-append, IsUtf8-nil, IsUtf8-encode, encode_ascii, chars_from_encodes, chars-IsAscii}
 use Rattle.tx_read.specs.Pieces.{behind}
-use Rattle.tx_tree.specs.Kind.{kind_name}
+use Rattle.tx_tree.proofs.lemmas.Kinds.{of_kinds}
+use Rattle.tx_tree.specs.Kind.{kind_name, has_form}
 use Rattle.tx_text.specs.Name.{is_name}
 use Rattle.tx_tree.specs.Spelled.{begins_capital, no_repeats, byte_is_spelled, key_is_spelled, kind_is_spelled, private_is_spelled}
 use Rattle.tx_tree.specs.declared.bind.Action.{Action}
@@ -19,7 +20,6 @@ use Rattle.tx_tree.specs.declared.bind.Jump.TheVariants.{Up as JumpUp, Down as J
 use Rattle.tx_tree.specs.declared.bind.Key.{Key}
 use Rattle.tx_tree.specs.declared.bind.Key.TheVariants.{Char, Enter, Escape, Tab, ShiftTab, Backspace, Delete, Up, Down, Left, Right, Home, End, PageUp, PageDown, Function, Ctrl}
 use Rattle.tx_tree.specs.declared.kind.Kind.{Kind}
-use Rattle.tx_tree.specs.declared.kind.Kind.TheVariants.{Screen, Container, Vertical, Horizontal, Grid, VerticalScroll, Static, Label, Button, Checkbox, Input, OptionList, ProgressBar, Header, Footer, Handed}
 use Rattle.tx_tree.specs.declared.kind.Private.{Private}
 use Rattle.tx_tree.specs.declared.kind.Private.TheVariants.{Plain, Cursor, On, Chosen, Bar}
 use Rattle.tx_tree_file.proofs.AgainParts.{word-again, no_blank, name-no_blank, named, later-stops, id-later, id-again, classes-later, class_list-again, disabled-later, disabled-again, private-later, private-again, number-again, decimal-no_blank, decimal-digits, same-bytes, text-later, inline-later, text-again, inline-again, kind-again}
@@ -341,77 +341,22 @@ private-utf8 kind (On false) h = IsUtf8-nil
 private-utf8 kind Plain h = IsUtf8-nil
 private-utf8 kind (Cursor place) h = IsUtf8-nil
 private-utf8 kind (Chosen line) h = IsUtf8-nil
-private-utf8 ProgressBar (Bar done total) h = total-utf8 (total == 100) total (leb-true total 1000000 (and_parts (nat_le 1 total) _ h).1)
-private-utf8 Screen (Bar done total) h = absurd (false≢true h)
-private-utf8 Container (Bar done total) h = absurd (false≢true h)
-private-utf8 Vertical (Bar done total) h = absurd (false≢true h)
-private-utf8 Horizontal (Bar done total) h = absurd (false≢true h)
-private-utf8 Grid (Bar done total) h = absurd (false≢true h)
-private-utf8 VerticalScroll (Bar done total) h = absurd (false≢true h)
-private-utf8 Static (Bar done total) h = absurd (false≢true h)
-private-utf8 Label (Bar done total) h = absurd (false≢true h)
-private-utf8 Button (Bar done total) h = absurd (false≢true h)
-private-utf8 Checkbox (Bar done total) h = absurd (false≢true h)
-private-utf8 Input (Bar done total) h = absurd (false≢true h)
-private-utf8 OptionList (Bar done total) h = absurd (false≢true h)
-private-utf8 Header (Bar done total) h = absurd (false≢true h)
-private-utf8 Footer (Bar done total) h = absurd (false≢true h)
-private-utf8 (Handed name) (Bar done total) h = absurd (false≢true h)
+private-utf8 kind (Bar done total) h =
+    let range = (and_parts (has_form kind (Bar done total)) _ h).1 in
+    total-utf8 (total == 100) total (leb-true total 1000000 (and_parts (nat_le 1 total) _ range).1)
 
 -- the name of a kind begins with a capital letter
 pub capital : (kind : Kind) → kind_is_spelled kind ≡ true → begins_capital (kind_name kind) ≡ true
-capital (Handed name) h = (and_parts (begins_capital name) _ h).0
-capital Screen h = refl
-capital Container h = refl
-capital Vertical h = refl
-capital Horizontal h = refl
-capital Grid h = refl
-capital VerticalScroll h = refl
-capital Static h = refl
-capital Label h = refl
-capital Button h = refl
-capital Checkbox h = refl
-capital Input h = refl
-capital OptionList h = refl
-capital ProgressBar h = refl
-capital Header h = refl
-capital Footer h = refl
+capital = of_kinds (λ kind. kind_is_spelled kind ≡ true → begins_capital (kind_name kind) ≡ true) (λ kind. begins_capital (kind_name kind)) refl
+    (λ kind found e h. e) (λ name h. (and_parts (begins_capital name) _ h).0)
 
 kind-no_blank : (kind : Kind) → kind_is_typed kind ≡ true → list_all no_blank (kind_name kind) ≡ true
-kind-no_blank (Handed name) h = name-no_blank name h
-kind-no_blank Screen h = refl
-kind-no_blank Container h = refl
-kind-no_blank Vertical h = refl
-kind-no_blank Horizontal h = refl
-kind-no_blank Grid h = refl
-kind-no_blank VerticalScroll h = refl
-kind-no_blank Static h = refl
-kind-no_blank Label h = refl
-kind-no_blank Button h = refl
-kind-no_blank Checkbox h = refl
-kind-no_blank Input h = refl
-kind-no_blank OptionList h = refl
-kind-no_blank ProgressBar h = refl
-kind-no_blank Header h = refl
-kind-no_blank Footer h = refl
+kind-no_blank = of_kinds (λ kind. kind_is_typed kind ≡ true → list_all no_blank (kind_name kind) ≡ true) (λ kind. list_all no_blank (kind_name kind)) refl
+    (λ kind found e h. e) name-no_blank
 
 kind-utf8 : (kind : Kind) → kind_is_typed kind ≡ true → IsUtf8 (kind_name kind)
-kind-utf8 (Handed name) h = name_utf8 name h
-kind-utf8 Screen h = low-utf8 (codes "Screen") refl
-kind-utf8 Container h = low-utf8 (codes "Container") refl
-kind-utf8 Vertical h = low-utf8 (codes "Vertical") refl
-kind-utf8 Horizontal h = low-utf8 (codes "Horizontal") refl
-kind-utf8 Grid h = low-utf8 (codes "Grid") refl
-kind-utf8 VerticalScroll h = low-utf8 (codes "VerticalScroll") refl
-kind-utf8 Static h = low-utf8 (codes "Static") refl
-kind-utf8 Label h = low-utf8 (codes "Label") refl
-kind-utf8 Button h = low-utf8 (codes "Button") refl
-kind-utf8 Checkbox h = low-utf8 (codes "Checkbox") refl
-kind-utf8 Input h = low-utf8 (codes "Input") refl
-kind-utf8 OptionList h = low-utf8 (codes "OptionList") refl
-kind-utf8 ProgressBar h = low-utf8 (codes "ProgressBar") refl
-kind-utf8 Header h = low-utf8 (codes "Header") refl
-kind-utf8 Footer h = low-utf8 (codes "Footer") refl
+kind-utf8 = of_kinds (λ kind. kind_is_typed kind ≡ true → IsUtf8 (kind_name kind)) (λ kind. list_all is_low (kind_name kind)) refl
+    (λ kind found e h. low-utf8 (kind_name kind) e) name_utf8
 
 -- what holds of each part of a row
 pub record HasParts (row : Row) : Type 0 where

@@ -1,6 +1,6 @@
 -- What is spelled is read again, part by part.
 use Rattle.std.proofs.lemmas.Bool.{and_parts, and_from}
-use Rattle.std.proofs.Common.{◌≡◌, ℕ, zero, suc, ◌+◌, ◌-◌, ◌*◌, ◌%◌, ◌<◌, ◌≤◌, ◌==◌, ◌||◌, ◌^◌, Bool, true, false, cond, not, nat_le, nat_lt, List, [], ◌∷◌, ◌++◌, length, take, drop, flat_map, find, map, Option, Some, None, option_map, option_and_then, refl, ap, ap₂, sym, ◌∙◌, arith, append_assoc, length-append, codes, decimal, bytes_eq, drop_at, take_at}
+use Rattle.std.proofs.Common.{◌≡◌, ℕ, zero, suc, ◌+◌, ◌-◌, ◌*◌, ◌%◌, ◌<◌, ◌≤◌, ◌==◌, ◌&&◌, ◌||◌, ◌^◌, Bool, true, false, cond, not, nat_le, nat_lt, List, [], ◌∷◌, ◌++◌, length, take, drop, flat_map, Option, Some, None, is_some, option_map, option_and_then, refl, ap, ap₂, sym, ◌∙◌, arith, append_assoc, length-append, codes, decimal, bytes_eq, drop_at, take_at}
 use Rattle.std.specs.Char.{is_ascii_digit}
 use Rattle.std.specs.List.{list_all, list_any}
 use Rattle.std.specs.Str.{is_utf8}
@@ -11,17 +11,17 @@ use Rattle.std.proofs.lemmas.Slice.Eq.{bytes_eq-Decides}
 use Rattle.std.proofs.lemmas.Str.{is_utf8-from_IsUtf8}
 use Rattle.tx_read.specs.Number.{number_at_most, value, value_behind}
 use Rattle.tx_read.specs.Pieces.{behind}
-use Rattle.tx_tree.specs.Kind.{kind_name}
+use Rattle.tx_tree.proofs.lemmas.Kinds.{of_kinds}
+use Rattle.tx_tree.specs.Kind.{kind_name, kind_named, is_alike}
 use Rattle.tx_text.specs.Name.{is_name, begins_name, continues_name}
-use Rattle.tx_tree.specs.Spelled.{begins_capital, no_repeats, byte_is_spelled, kind_is_spelled, container_names, leaf_names, private_is_spelled, is_plain as is_plain_state, is_bar}
+use Rattle.tx_tree.specs.Spelled.{begins_capital, no_repeats, byte_is_spelled, kind_is_spelled, private_is_spelled, total_is_spelled}
 use Rattle.tx_tree.specs.declared.kind.Kind.{Kind}
 use Rattle.tx_tree.specs.declared.kind.Kind.TheVariants.{Screen, Container, Vertical, Horizontal, Grid, VerticalScroll, Static, Label, Button, Checkbox, Input, OptionList, ProgressBar, Header, Footer, Handed}
 use Rattle.tx_tree.specs.declared.kind.Private.{Private}
 use Rattle.tx_tree.specs.declared.kind.Private.TheVariants.{Plain, Cursor, On, Chosen, Bar}
-use Rattle.tx_tree_file.proofs.FoundLines.{any-append}
 use Rattle.tx_tree_file.proofs.Fronts.{same-byte}
 use Rattle.tx_tree_file.proofs.Utf8Lemmas.{name_utf8}
-use Rattle.tx_tree_file.specs.Parts.{word, past_word, name_of, flag, flag_by, built_in, or_handed, kind_of, id_of, id_by, classes_within, class_by, classes_of, is_total, total_of, bar_by, box_by, private_of, is_plain, put_front, quoted, some_text, text_by, text_of, before_brace, inline_of}
+use Rattle.tx_tree_file.specs.Parts.{word, past_word, name_of, flag, flag_by, or_handed, kind_of, id_of, id_by, classes_within, class_by, classes_of, is_total, total_of, bar_by, box_by, private_of, is_plain, put_front, quoted, some_text, text_by, text_of, before_brace, inline_of}
 use Rattle.tx_tree_file.specs.Spelling.{id_part, class_part, class_parts, disabled_part, private_part, escaped, text_part, inline_part}
 use Rattle.tx_tree_file.specs.TreeFile.{id_is_typed, kind_is_typed, kept}
 
@@ -170,7 +170,7 @@ pub record IsStateAgain (kind : Kind) (private : Private) (bytes : List ℕ) : T
 quiet : (kind : Kind) (private : Private) (bytes : List ℕ) → private_part private ≡ [] → private_of kind bytes ≡ Some (Plain, bytes) → ((size : ℕ) → kept kind size Plain ≡ kept kind size private) → IsStateAgain kind private bytes
 quiet kind private bytes none read same = record { state = Plain; read = ap (λ (z : List ℕ). private_of kind (z ++ bytes)) none ∙ read; same = same }
 
-plain-state : (p : Private) → is_plain_state p ≡ true → p ≡ Plain
+plain-state : (p : Private) → (is_alike Plain p && total_is_spelled p) ≡ true → p ≡ Plain
 plain-state Plain h = refl
 plain-state (Cursor n) h = absurd (false≢true h)
 plain-state (On b) h = absurd (false≢true h)
@@ -228,7 +228,7 @@ total-again n least most other =
     ap (option_and_then (λ (z : ℕ). cond (is_total (decimal n) z) (Some z) None)) (number-again 1000000 n few most)
     ∙ ap (λ (b : Bool). cond b (Some n) None) (and_from _ _ (same-bytes (decimal n)) (and_from _ _ least (ap not other)))
 
-bar-again : (done total : ℕ) (bytes : List ℕ) → is_bar (Bar done total) ≡ true → Later 5 bytes → IsStateAgain ProgressBar (Bar done total) bytes
+bar-again : (done total : ℕ) (bytes : List ℕ) → total_is_spelled (Bar done total) ≡ true → Later 5 bytes → IsStateAgain ProgressBar (Bar done total) bytes
 bar-again done total bytes h l = by (total == 100) refl
   where
     most : total ≤ 1000000
@@ -352,37 +352,19 @@ inline-again (byte ∷ bytes) u =
 pub name-is_utf8 : (name : List ℕ) → is_name name ≡ true → is_utf8 name ≡ true
 name-is_utf8 name h = is_utf8-from_IsUtf8 name (name_utf8 name h)
 
-pub none-found : {A : Type 0} (name : List ℕ) (f : A → List ℕ) (xs : List A) → list_any (bytes_eq name) (map f xs) ≡ false → find (λ x. bytes_eq name (f x)) xs ≡ None
-none-found name f [] h = refl
-none-found name f (x ∷ xs) h = by (bytes_eq name (f x)) h (none-found name f xs)
-  where
-    by : (b : Bool) → (b || list_any (bytes_eq name) (map f xs)) ≡ false → (list_any (bytes_eq name) (map f xs) ≡ false → find (λ x. bytes_eq name (f x)) xs ≡ None) → cond b (Some x) (find (λ x. bytes_eq name (f x)) xs) ≡ None
-    by true g more = absurd (false≢true (sym g))
-    by false g more = more g
-
-built-again : (name : List ℕ) (o : Option Kind) (kind : Kind) → is_name name ≡ true → find (λ k. bytes_eq name (kind_name k)) built_in ≡ o → or_handed name o ≡ Some kind → kind_of name ≡ Some kind
-built-again name o kind h e g = ap (λ (b : Bool). cond b (or_handed name (find (λ k. bytes_eq name (kind_name k)) built_in)) None) (name-is_utf8 name h) ∙ ap (or_handed name) e ∙ g
+built-again : (name : List ℕ) (o : Option Kind) (kind : Kind) → is_name name ≡ true → kind_named name ≡ o → or_handed name o ≡ Some kind → kind_of name ≡ Some kind
+built-again name o kind h e g = ap (λ (b : Bool). cond b (or_handed name (kind_named name)) None) (name-is_utf8 name h) ∙ ap (or_handed name) e ∙ g
 
 pub not_inv : (b : Bool) → not b ≡ true → b ≡ false
 not_inv true h = absurd (false≢true h)
 not_inv false h = refl
 
 pub kind-again : (kind : Kind) → kind_is_spelled kind ≡ true → kind_is_typed kind ≡ true → kind_of (kind_name kind) ≡ Some kind
-kind-again (Handed name) h t =
-    built-again name None (Handed name) t (none-found name kind_name built_in (any-append (bytes_eq name) container_names leaf_names ∙ not_inv _ (and_parts _ _ h).1))
-    (ap (λ (b : Bool). cond b (Some (Handed name)) None) (and_from _ _ t (and_parts (begins_capital name) _ h).0))
-kind-again Screen h t = built-again (codes "Screen") (Some Screen) Screen refl refl refl
-kind-again Container h t = built-again (codes "Container") (Some Container) Container refl refl refl
-kind-again Vertical h t = built-again (codes "Vertical") (Some Vertical) Vertical refl refl refl
-kind-again Horizontal h t = built-again (codes "Horizontal") (Some Horizontal) Horizontal refl refl refl
-kind-again Grid h t = built-again (codes "Grid") (Some Grid) Grid refl refl refl
-kind-again VerticalScroll h t = built-again (codes "VerticalScroll") (Some VerticalScroll) VerticalScroll refl refl refl
-kind-again Static h t = built-again (codes "Static") (Some Static) Static refl refl refl
-kind-again Label h t = built-again (codes "Label") (Some Label) Label refl refl refl
-kind-again Button h t = built-again (codes "Button") (Some Button) Button refl refl refl
-kind-again Checkbox h t = built-again (codes "Checkbox") (Some Checkbox) Checkbox refl refl refl
-kind-again Input h t = built-again (codes "Input") (Some Input) Input refl refl refl
-kind-again OptionList h t = built-again (codes "OptionList") (Some OptionList) OptionList refl refl refl
-kind-again ProgressBar h t = built-again (codes "ProgressBar") (Some ProgressBar) ProgressBar refl refl refl
-kind-again Header h t = built-again (codes "Header") (Some Header) Header refl refl refl
-kind-again Footer h t = built-again (codes "Footer") (Some Footer) Footer refl refl refl
+kind-again = of_kinds (λ kind. kind_is_spelled kind ≡ true → kind_is_typed kind ≡ true → kind_of (kind_name kind) ≡ Some kind)
+    (λ kind. is_name (kind_name kind)) refl
+    (λ kind found e h t. built-again (kind_name kind) (Some kind) kind e found refl)
+    (λ name h t. built-again name None (Handed name) t (none_of (kind_named name) (not_inv _ (and_parts _ _ h).1)) (ap (λ (b : Bool). cond b (Some (Handed name)) None) (and_from _ _ t (and_parts (begins_capital name) _ h).0)))
+  where
+    none_of : (o : Option Kind) → is_some o ≡ false → o ≡ None
+    none_of None h = refl
+    none_of (Some k) h = absurd (false≢true (sym h))

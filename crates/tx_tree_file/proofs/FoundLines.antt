@@ -1,15 +1,16 @@
 -- What is read of a line is spelled so.
 use Rattle.std.proofs.lemmas.Bool.{and_parts, and_from}
-use Rattle.std.proofs.Common.{◌≡◌, ℕ, ◌≤◌, ◌==◌, ◌&&◌, ◌||◌, Bool, true, false, cond, not, nat_le, List, [], ◌∷◌, ◌++◌, length, flat_map, find, map, Option, Some, None, option_map, refl, ap, ap₂, sym, subst, ◌∙◌, arith, append-nil, length-append, codes, decimal, chars, bytes_eq, encode_utf8, encode_utf8_all}
-use Rattle.std.specs.List.{list_all, list_any}
+use Rattle.std.proofs.Common.{◌≡◌, ℕ, ◌≤◌, ◌==◌, ◌&&◌, ◌||◌, Bool, true, false, cond, not, nat_le, List, [], ◌∷◌, ◌++◌, length, flat_map, find, Option, Some, None, is_some, option_map, refl, ap, ap₂, sym, subst, ◌∙◌, arith, append-nil, length-append, codes, decimal, chars, bytes_eq, encode_utf8, encode_utf8_all}
+use Rattle.std.specs.List.{list_all}
 use Rattle.std.specs.Str.{is_utf8, all_scalars}
 use Rattle.std.proofs.lemmas.Str.{IsUtf8-from_is_utf8, encodes-chars, scalars-chars}
 use Rattle.tx_read.specs.Number.{number_at_most}
 use Rattle.tx_read.specs.Pieces.{behind}
-use Rattle.tx_tree.specs.Kind.{kind_name}
+use Rattle.tx_tree.proofs.lemmas.Kinds.{find_passes}
+use Rattle.tx_tree.specs.Kind.{kind_name, built_in, kind_named}
 use Rattle.tx_text.specs.Name.{is_name}
 use Rattle.tx_tree.specs.Row.{placed}
-use Rattle.tx_tree.specs.Spelled.{begins_capital, no_line_feed, key_is_spelled, kind_is_spelled, is_built_in, container_names, leaf_names, is_spelled}
+use Rattle.tx_tree.specs.Spelled.{begins_capital, no_line_feed, key_is_spelled, kind_is_spelled, is_built_in, is_spelled}
 use Rattle.tx_tree.specs.declared.bind.Action.{Action}
 use Rattle.tx_tree.specs.declared.bind.Action.TheVariants.{ToggleClass}
 use Rattle.tx_tree.specs.declared.bind.Bind.{Bind}
@@ -21,7 +22,7 @@ use Rattle.tx_tree.specs.declared.kind.Private.{Private}
 use Rattle.tx_tree.specs.declared.row.NewRow.{NewRow}
 use Rattle.tx_tree_file.proofs.FoundParts.{map-inv, then-inv, if-inv, same_bytes, word_split, name-found, flag-found, id-found, class_list-found, private-found, number-found, text-found, inline-found}
 use Rattle.tx_tree_file.proofs.Fronts.{some-same, none-some, front_of}
-use Rattle.tx_tree_file.specs.Parts.{word, past_word, name_of, flag, built_in, or_handed, kind_of, id_of, classes_of, private_of, text_of, inline_of, named_keys, function_by, function_of, control_of, or_key, long_key, only_char, char_key, key_by, key_of, named_actions, or_toggle, action_of}
+use Rattle.tx_tree_file.specs.Parts.{word, past_word, name_of, flag, or_handed, kind_of, id_of, classes_of, private_of, text_of, inline_of, named_keys, function_by, function_of, control_of, or_key, long_key, only_char, char_key, key_by, key_of, named_actions, or_toggle, action_of}
 use Rattle.tx_tree_file.specs.Spelling.{id_part, class_parts, disabled_part, private_part, escaped, text_part, inline_part, row_text, key_name, action_name, priority_part, bind_text}
 use Rattle.tx_tree_file.specs.TreeFile.{kind_is_typed, key_is_typed, action_is_typed, bind_is_typed, is_typed, kept}
 use Rattle.tx_tree_file.specs.TreeReading.{◌>>=◌, row_of, bind_of}
@@ -40,31 +41,6 @@ find-found name f (x ∷ xs) y h = by (bytes_eq name (f x)) refl (find-found nam
     by true e more g = same_bytes name (f x) e ∙ ap f (some-same g)
     by false e more g = more g
 
-find-all : {A : Type 0} (p q : A → Bool) (xs : List A) (y : A) → list_all q xs ≡ true → find p xs ≡ Some y → q y ≡ true
-find-all p q [] y a h = none-some h
-find-all p q (x ∷ xs) y a h = by (p x) (find-all p q xs y (and_parts _ _ a).1) h
-  where
-    by : (b : Bool) → (find p xs ≡ Some y → q y ≡ true) → cond b (Some x) (find p xs) ≡ Some y → q y ≡ true
-    by true more g = ap q (sym (some-same g)) ∙ (and_parts _ _ a).0
-    by false more g = more g
-
-find-none : {A : Type 0} (name : List ℕ) (f : A → List ℕ) (xs : List A) → find (λ x. bytes_eq name (f x)) xs ≡ None → list_any (bytes_eq name) (map f xs) ≡ false
-find-none name f [] h = refl
-find-none name f (x ∷ xs) h = by (bytes_eq name (f x)) (find-none name f xs) h
-  where
-    by : (b : Bool) → (find (λ x. bytes_eq name (f x)) xs ≡ None → list_any (bytes_eq name) (map f xs) ≡ false) → cond b (Some x) (find (λ x. bytes_eq name (f x)) xs) ≡ None
-        → (b || list_any (bytes_eq name) (map f xs)) ≡ false
-    by true more g = none-some (sym g)
-    by false more g = more g
-
-pub any-append : {A : Type 0} (p : A → Bool) (xs ys : List A) → list_any p (xs ++ ys) ≡ (list_any p xs || list_any p ys)
-any-append p [] ys = refl
-any-append p (x ∷ xs) ys = by (p x) (any-append p xs ys)
-  where
-    by : (b : Bool) → list_any p (xs ++ ys) ≡ (list_any p xs || list_any p ys) → (b || list_any p (xs ++ ys)) ≡ ((b || list_any p xs) || list_any p ys)
-    by true h = refl
-    by false h = h
-
 -- ---- kinds
 
 pub record IsKind (name : List ℕ) (kind : Kind) : Type 0 where
@@ -72,25 +48,23 @@ pub record IsKind (name : List ℕ) (kind : Kind) : Type 0 where
   pub spelled : kind_is_spelled kind ≡ true
   pub typed : kind_is_typed kind ≡ true
 
-not_built_in : (name : List ℕ) → find (λ kind. bytes_eq name (kind_name kind)) built_in ≡ None → is_built_in name ≡ false
-not_built_in name h = sym (any-append (bytes_eq name) container_names leaf_names) ∙ find-none name kind_name built_in h
-
 pub kind-found : (name : List ℕ) (kind : Kind) → kind_of name ≡ Some kind → IsKind name kind
+unfolding kind_named
 kind-found name kind h =
-    let (utf8, inner) = if-inv (is_utf8 name) (or_handed name (find (λ kind. bytes_eq name (kind_name kind)) built_in)) kind h in
-    by (find (λ kind. bytes_eq name (kind_name kind)) built_in) refl inner
+    let (utf8, inner) = if-inv (is_utf8 name) (or_handed name (kind_named name)) kind h in
+    by (kind_named name) refl inner
   where
-    by : (o : Option Kind) → find (λ kind. bytes_eq name (kind_name kind)) built_in ≡ o → or_handed name o ≡ Some kind → IsKind name kind
+    by : (o : Option Kind) → kind_named name ≡ o → or_handed name o ≡ Some kind → IsKind name kind
     by (Some k) e g = subst (IsKind name) (some-same g) (record {
       text = find-found name kind_name built_in k e;
-      spelled = find-all (λ kind. bytes_eq name (kind_name kind)) kind_is_spelled built_in k refl e;
-      typed = find-all (λ kind. bytes_eq name (kind_name kind)) kind_is_typed built_in k refl e;
+      spelled = find_passes (λ kind. bytes_eq name (kind_name kind)) kind_is_spelled built_in k refl e;
+      typed = find_passes (λ kind. bytes_eq name (kind_name kind)) kind_is_typed built_in k refl e;
     })
     by None e g =
         let (good, same) = if-inv (is_name name && begins_capital name) (Some (Handed name)) kind g in
         subst (IsKind name) (some-same same) (record {
           text = refl;
-          spelled = and_from (begins_capital name) (not (is_built_in name)) (and_parts _ _ good).1 (ap not (not_built_in name e));
+          spelled = and_from (begins_capital name) (not (is_built_in name)) (and_parts _ _ good).1 (ap (λ (o : Option Kind). not (is_some o)) e);
           typed = (and_parts _ _ good).0;
         })
 
@@ -260,8 +234,8 @@ long-found name key h =
     or_key-found name key _ _
     (λ k e. record {
       text = find-found name key_name named_keys k e;
-      spelled = find-all (λ key. bytes_eq name (key_name key)) key_is_spelled named_keys k refl e;
-      typed = find-all (λ key. bytes_eq name (key_name key)) key_is_typed named_keys k refl e;
+      spelled = find_passes (λ key. bytes_eq name (key_name key)) key_is_spelled named_keys k refl e;
+      typed = find_passes (λ key. bytes_eq name (key_name key)) key_is_typed named_keys k refl e;
     })
     (λ k e. or_key-found name k _ _ (function-found name) (control-found name) e) h
 
@@ -281,7 +255,7 @@ action-found name action h =
   where
     by : (o : Option Action) → find (λ action. bytes_eq name (action_name action)) named_actions ≡ o → or_toggle name o ≡ Some action → (name ≡ action_name action) × (action_is_typed action ≡ true)
     by (Some a) e g = subst (λ (z : Action). (name ≡ action_name z) × (action_is_typed z ≡ true)) (some-same g)
-        (find-found name action_name named_actions a e, find-all (λ action. bytes_eq name (action_name action)) action_is_typed named_actions a refl e)
+        (find-found name action_name named_actions a e, find_passes (λ action. bytes_eq name (action_name action)) action_is_typed named_actions a refl e)
     by None e g =
         let (class, is, more) = then-inv (λ (class : List ℕ). option_map ToggleClass (name_of class)) (behind (codes "toggle_class ") name) action g in
         let (named, found, same) = map-inv ToggleClass (name_of class) action more in

@@ -4,7 +4,7 @@ use Rattle.std.specs.Prelude.{ℕ, zero, suc, ◌-◌, ◌==◌, ◌&&◌, Bool,
 use Rattle.std.specs.Str.{is_utf8}
 use Rattle.tx_read.specs.Number.{number_at_most}
 use Rattle.tx_read.specs.Pieces.{behind}
-use Rattle.tx_tree.specs.Kind.{kind_name}
+use Rattle.tx_tree.specs.Kind.{kind_named}
 use Rattle.tx_text.specs.Name.{is_name}
 use Rattle.tx_tree.specs.Spelled.{begins_capital, no_repeats, byte_is_spelled, key_is_spelled}
 use Rattle.tx_tree.specs.declared.bind.Action.{Action}
@@ -13,7 +13,7 @@ use Rattle.tx_tree.specs.declared.bind.Jump.TheVariants.{Up as JumpUp, Down as J
 use Rattle.tx_tree.specs.declared.bind.Key.{Key}
 use Rattle.tx_tree.specs.declared.bind.Key.TheVariants.{Char, Enter, Escape, Tab, ShiftTab, Backspace, Delete, Up, Down, Left, Right, Home, End, PageUp, PageDown, Function, Ctrl}
 use Rattle.tx_tree.specs.declared.kind.Kind.{Kind}
-use Rattle.tx_tree.specs.declared.kind.Kind.TheVariants.{Screen, Container, Vertical, Horizontal, Grid, VerticalScroll, Static, Label, Button, Checkbox, Input, OptionList, ProgressBar, Header, Footer, Handed}
+use Rattle.tx_tree.specs.declared.kind.Kind.TheVariants.{Checkbox, ProgressBar, Handed}
 use Rattle.tx_tree.specs.declared.kind.Private.{Private}
 use Rattle.tx_tree.specs.declared.kind.Private.TheVariants.{Plain, On, Bar}
 use Rattle.tx_tree_file.specs.Spelling.{key_name, action_name}
@@ -43,16 +43,13 @@ flag part bytes = flag_by (behind part bytes) bytes
 
 -- ---- the parts of a row
 
-abbrev pub built_in : List Kind
-built_in = Screen ∷ Container ∷ Vertical ∷ Horizontal ∷ Grid ∷ VerticalScroll ∷ Static ∷ Label ∷ Button ∷ Checkbox ∷ Input ∷ OptionList ∷ ProgressBar ∷ Header ∷ Footer ∷ []
-
 -- the kind that a name handed in is
 abbrev pub or_handed : List ℕ → Option Kind → Option Kind
 or_handed name (Some kind) = Some kind
 or_handed name None = if is_name name && begins_capital name then Some (Handed name) else None
 
 abbrev pub kind_of : List ℕ → Option Kind
-kind_of name = if is_utf8 name then or_handed name (find (λ kind. bytes_eq name (kind_name kind)) built_in) else None
+kind_of name = if is_utf8 name then or_handed name (kind_named name) else None
 
 -- `#id`, where it stands there
 abbrev pub id_by : Option (List ℕ) → List ℕ → Option (Option (List ℕ) × List ℕ)

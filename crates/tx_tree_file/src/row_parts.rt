@@ -1,9 +1,8 @@
 //! The parts of a row line, each with the bytes behind it.
-ghost use Rattle.std.specs.Prelude.{◌≡◌, option_map, option_copied, not, find, bytes_eq, decimal, codes, false, IfOk};
-ghost use Rattle.tx_tree.specs.Kind.{kind_name};
+ghost use Rattle.std.specs.Prelude.{◌≡◌, option_map, option_copied, not, bytes_eq, decimal, codes, false, IfOk};
 ghost use Rattle.tx_tree.specs.Spelled.{no_repeats};
 ghost use Rattle.tx_read.specs.Pieces.{behind};
-ghost use Rattle.tx_tree_file.specs.Parts.{built_in, kind_of, id_of, classes_of, total_of, is_total, private_of, bar_by, unescaped, is_plain, quoted, some_text, text_of, before_brace, inline_of};
+ghost use Rattle.tx_tree_file.specs.Parts.{kind_of, id_of, classes_of, total_of, is_total, private_of, bar_by, unescaped, is_plain, quoted, some_text, text_of, before_brace, inline_of};
 
 use crate::words::{as_text, flag, split_word};
 use std::alloc::{AllocError, Global};
@@ -14,29 +13,6 @@ use tx_tree::{Kind, Name, Private, Text, begins_capital};
 // The greatest total of a progress bar.
 const MOST_TOTAL: u32 = 1_000_000;
 
-fn built_in(name: &str) -> Option<Kind>
-    ensures { result ≡ find (λ kind. bytes_eq name.now (kind_name kind)) built_in }
-{
-    match name {
-        "Screen" => Some(Kind::Screen),
-        "Container" => Some(Kind::Container),
-        "Vertical" => Some(Kind::Vertical),
-        "Horizontal" => Some(Kind::Horizontal),
-        "Grid" => Some(Kind::Grid),
-        "VerticalScroll" => Some(Kind::VerticalScroll),
-        "Static" => Some(Kind::Static),
-        "Label" => Some(Kind::Label),
-        "Button" => Some(Kind::Button),
-        "Checkbox" => Some(Kind::Checkbox),
-        "Input" => Some(Kind::Input),
-        "OptionList" => Some(Kind::OptionList),
-        "ProgressBar" => Some(Kind::ProgressBar),
-        "Header" => Some(Kind::Header),
-        "Footer" => Some(Kind::Footer),
-        _ => None,
-    }
-}
-
 /// The kind that a word names: a built-in one, or else one that is handed in.
 pub fn kind_of(word: &[u8]) -> Option<Kind>
     ensures { result ≡ kind_of word.now }
@@ -44,7 +20,7 @@ pub fn kind_of(word: &[u8]) -> Option<Kind>
     let Some(name) = as_text(word) else {
         return None;
     };
-    if let Some(kind) = built_in(name) {
+    if let Some(kind) = Kind::named(name) {
         return Some(kind);
     }
     match Name::of_bytes(word) {

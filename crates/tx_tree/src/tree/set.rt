@@ -2,11 +2,11 @@
 
 ghost use Rattle.std.specs.Prelude.{◌≡◌, ◌+◌, ◌<◌, ◌≤◌, ◌^◌, not, true, is_some, length, OnOk, OnErr, IfOk, slice_set};
 ghost use Rattle.tx_tree.specs.Classes.{without, has_name, with_name};
-ghost use Rattle.tx_tree.specs.Edits.{private_at};
 ghost use Rattle.tx_tree.specs.Changes.{text_size, changed_by};
 ghost use Rattle.tx_tree.specs.Links.{slots, classes_in, with_row, with_own_classes};
 
 use super::node::Node;
+use crate::kind::private_at;
 use crate::{Name, NoMemory, Private, Row, Text};
 
 /// A change of one row, which moves what it is given.
@@ -53,17 +53,6 @@ fn changed_by(mut row: Row, change: Change) -> Row
         }
     }
     row
-}
-
-// The private state once the text is so long.
-fn private_at(size: u32, private: Private) -> Private
-    ensures { result ≡ private_at size private }
-{
-    match private {
-        Private::Cursor(_) => Private::Cursor(size),
-        Private::Chosen(_) => Private::Chosen(0),
-        other => other,
-    }
 }
 
 /// Adds a class to a node's row where it is absent, and answers whether it was.
