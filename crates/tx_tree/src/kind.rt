@@ -41,7 +41,7 @@ struct KindRow<'a> {
 }
 
 // The columns in the order of the table below.
-fn kind_row<'a>(
+fn columns<'a>(
     name: &'a str,
     base: &'a str,
     holds_children: bool,
@@ -90,7 +90,7 @@ const NEW_BAR: Private = Private::Bar {
 impl Kind {
     // The table of the kinds: the name, the base, whether it may have children, whether it can have
     // the focus, and the private state that a row with an empty text begins with.
-    fn row(&self) -> KindRow<'_>
+    fn table_row(&self) -> KindRow<'_>
         ensures name { result.name.now ≡ kind_name self.now }
         ensures base { result.base.now ≡ base_name self.now }
         ensures holds_children { result.holds_children ≡ holds_children self.now }
@@ -98,28 +98,22 @@ impl Kind {
         ensures private { result.private ≡ first_state self.now }
     {
         match self {
-            Kind::Screen => kind_row("Screen", "Widget", true, false, Private::Plain),
-            Kind::Container => kind_row("Container", "Widget", true, false, Private::Plain),
-            Kind::Vertical => kind_row("Vertical", "Widget", true, false, Private::Plain),
-            Kind::Horizontal => kind_row("Horizontal", "Widget", true, false, Private::Plain),
-            Kind::Grid => kind_row("Grid", "Widget", true, false, Private::Plain),
-            Kind::VerticalScroll => kind_row(
-                "VerticalScroll",
-                "Widget",
-                true,
-                true,
-                Private::Plain,
-            ),
-            Kind::Static => kind_row("Static", "Widget", false, false, Private::Plain),
-            Kind::Label => kind_row("Label", "Static", false, false, Private::Plain),
-            Kind::Button => kind_row("Button", "Widget", false, true, Private::Plain),
-            Kind::Checkbox => kind_row("Checkbox", "Widget", false, true, Private::On(false)),
-            Kind::Input => kind_row("Input", "Widget", false, true, Private::Cursor(0)),
-            Kind::OptionList => kind_row("OptionList", "Widget", false, true, Private::Chosen(0)),
-            Kind::ProgressBar => kind_row("ProgressBar", "Widget", false, false, NEW_BAR),
-            Kind::Header => kind_row("Header", "Widget", false, false, Private::Plain),
-            Kind::Footer => kind_row("Footer", "Widget", false, false, Private::Plain),
-            Kind::Handed(name) => kind_row(name.as_str(), "Custom", false, true, Private::Plain),
+            Kind::Screen => columns("Screen", "Widget", true, false, Private::Plain),
+            Kind::Container => columns("Container", "Widget", true, false, Private::Plain),
+            Kind::Vertical => columns("Vertical", "Widget", true, false, Private::Plain),
+            Kind::Horizontal => columns("Horizontal", "Widget", true, false, Private::Plain),
+            Kind::Grid => columns("Grid", "Widget", true, false, Private::Plain),
+            Kind::VerticalScroll => columns("VerticalScroll", "Widget", true, true, Private::Plain),
+            Kind::Static => columns("Static", "Widget", false, false, Private::Plain),
+            Kind::Label => columns("Label", "Static", false, false, Private::Plain),
+            Kind::Button => columns("Button", "Widget", false, true, Private::Plain),
+            Kind::Checkbox => columns("Checkbox", "Widget", false, true, Private::On(false)),
+            Kind::Input => columns("Input", "Widget", false, true, Private::Cursor(0)),
+            Kind::OptionList => columns("OptionList", "Widget", false, true, Private::Chosen(0)),
+            Kind::ProgressBar => columns("ProgressBar", "Widget", false, false, NEW_BAR),
+            Kind::Header => columns("Header", "Widget", false, false, Private::Plain),
+            Kind::Footer => columns("Footer", "Widget", false, false, Private::Plain),
+            Kind::Handed(name) => columns(name.as_str(), "Custom", false, true, Private::Plain),
         }
     }
 
@@ -135,14 +129,14 @@ impl Kind {
     pub fn holds_children(self) -> bool
         ensures { result ≡ holds_children self }
     {
-        self.row().holds_children
+        self.table_row().holds_children
     }
 
     /// The name of the kind, as it stands in a tree file.
     pub fn name(&self) -> &str
         ensures { result.now ≡ kind_name self.now }
     {
-        self.row().name
+        self.table_row().name
     }
 
     /// Whether a type selector of this name names the kind: whether it is the kind's own name or
@@ -151,7 +145,7 @@ impl Kind {
     pub fn is_called(&self, name: &str) -> bool
         ensures { result ≡ is_called self.now name.now }
     {
-        let row = self.row();
+        let row = self.table_row();
         name == row.name || name == row.base || name == "Widget"
     }
 
@@ -159,7 +153,7 @@ impl Kind {
     pub fn can_focus(self) -> bool
         ensures { result ≡ can_focus self }
     {
-        self.row().can_focus
+        self.table_row().can_focus
     }
 
     /// Whether this is the Screen.
@@ -191,7 +185,7 @@ impl Private {
     pub fn fresh(kind: Kind, size: u32) -> Private
         ensures { result ≡ fresh kind size }
     {
-        private_at(size, kind.row().private)
+        private_at(size, kind.table_row().private)
     }
 
     /// Whether the state is of the form that rows of this kind have: of a Checkbox whether it is
@@ -200,7 +194,7 @@ impl Private {
     pub fn has_form(self, kind: Kind) -> bool
         ensures { result ≡ has_form kind self }
     {
-        match kind.row().private {
+        match kind.table_row().private {
             Private::Plain => matches!(self, Private::Plain),
             Private::Cursor(_) => matches!(self, Private::Cursor(_)),
             Private::On(_) => matches!(self, Private::On(_)),
