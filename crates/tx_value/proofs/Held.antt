@@ -1,13 +1,14 @@
 -- Each value that a declaration gives is one that the table gives its property.
 use Rattle.std.proofs.Common.{◌≡◌, ℕ, ◌+◌, Bool, true, false, List, [], ◌∷◌, Option, Some, None, option_map, Result, Ok, Err, Vec, cond, refl, subst}
 use Rattle.std.specs.declared.alloc.Global.{Global}
-use Rattle.std.specs.Prelude.{IfOk, option_and_then}
+use Rattle.std.specs.Prelude.{IfOk, option_and_then, codes}
 use Rattle.tx_lex.specs.Lexemes.{Lexeme}
 use Rattle.tx_value.specs.Answers.{GivesSome}
 use Rattle.tx_value.specs.Names.{is_only}
 use Rattle.tx_value.specs.Values.{joined, value_of}
-use Rattle.tx_value.specs.Declarations.{Pair, properties, share, pairs_from, all_initial, pairs_of}
+use Rattle.tx_value.specs.Declarations.{Pair, share, pairs_from, all_initial, pairs_of}
 use Rattle.tx_value.specs.Holds.{is_given, may_hold, AllHold}
+use Rattle.tx_value.specs.Tables.{properties, displays, visibilities, layouts, docks, box_sizings, overflows, places_across, places_down}
 use Rattle.tx_value.specs.declared.fault.ValueFault.{ValueFault}
 use Rattle.tx_value.specs.declared.fault.ValueFault.TheVariants.{BadValue}
 use Rattle.tx_value.specs.declared.property.Named.{Named}
@@ -15,7 +16,6 @@ use Rattle.tx_value.specs.declared.property.Property.{Property}
 use Rattle.tx_value.specs.declared.property.Property.TheVariants as property
 use Rattle.tx_value.specs.declared.value.Value.{Value}
 use Rattle.tx_value.specs.declared.value.Value.TheVariants as value
-use Rattle.tx_value.specs.declared.tables.TheConstants.{INITIAL, DISPLAYS, VISIBILITIES, LAYOUTS, DOCKS, BOX_SIZINGS, OVERFLOWS, PLACES_ACROSS, PLACES_DOWN}
 use Rattle.tx_value.proofs.Joined.{some_of_ok}
 use Rattle.tx_value.proofs.Passing.{passes}
 use Rattle.tx_value.proofs.Sorts as sorts
@@ -24,17 +24,17 @@ use Rattle.tx_value.proofs.Sorts as sorts
 
 value_given : (p : Property) (ts : List Lexeme) → passes (is_given p) (value_of p ts) ≡ true
 unfolding is_given value_of
-value_given property.Display ts = sorts.word DISPLAYS ts
-value_given property.Visibility ts = sorts.word VISIBILITIES ts
-value_given property.Layout ts = sorts.word LAYOUTS ts
-value_given property.Dock ts = sorts.word DOCKS ts
+value_given property.Display ts = sorts.word displays ts
+value_given property.Visibility ts = sorts.word visibilities ts
+value_given property.Layout ts = sorts.word layouts ts
+value_given property.Dock ts = sorts.word docks ts
 value_given property.Width ts = sorts.size ts
 value_given property.Height ts = sorts.size ts
 value_given property.MinWidth ts = sorts.limit ts
 value_given property.MaxWidth ts = sorts.limit ts
 value_given property.MinHeight ts = sorts.limit ts
 value_given property.MaxHeight ts = sorts.limit ts
-value_given property.BoxSizing ts = sorts.word BOX_SIZINGS ts
+value_given property.BoxSizing ts = sorts.word box_sizings ts
 value_given property.MarginTop ts = sorts.whole 0 9999 ts
 value_given property.MarginRight ts = sorts.whole 0 9999 ts
 value_given property.MarginBottom ts = sorts.whole 0 9999 ts
@@ -58,14 +58,14 @@ value_given property.ColumnSpan ts = sorts.whole 1 100 ts
 value_given property.RowSpan ts = sorts.whole 1 100 ts
 value_given property.Layers ts = sorts.layers ts
 value_given property.Layer ts = sorts.layer ts
-value_given property.OverflowX ts = sorts.word OVERFLOWS ts
-value_given property.OverflowY ts = sorts.word OVERFLOWS ts
+value_given property.OverflowX ts = sorts.word overflows ts
+value_given property.OverflowY ts = sorts.word overflows ts
 value_given property.Offset ts = sorts.offset ts
-value_given property.AlignHorizontal ts = sorts.word PLACES_ACROSS ts
-value_given property.AlignVertical ts = sorts.word PLACES_DOWN ts
-value_given property.ContentAlignHorizontal ts = sorts.word PLACES_ACROSS ts
-value_given property.ContentAlignVertical ts = sorts.word PLACES_DOWN ts
-value_given property.TextAlign ts = sorts.word PLACES_ACROSS ts
+value_given property.AlignHorizontal ts = sorts.word places_across ts
+value_given property.AlignVertical ts = sorts.word places_down ts
+value_given property.ContentAlignHorizontal ts = sorts.word places_across ts
+value_given property.ContentAlignVertical ts = sorts.word places_down ts
+value_given property.TextAlign ts = sorts.word places_across ts
 
 given_held : (p : Property) (v : Value) → is_given p v ≡ true → may_hold p v ≡ true
 given_held p value.Initial h = refl
@@ -104,7 +104,7 @@ either_held false x y h i = i
 
 pairs_held : (what : Named) (ts : List Lexeme) → Passes AllHold (pairs_of what ts)
 unfolding pairs_of
-pairs_held what ts = either_held (is_only INITIAL.now ts) _ _ (initial_held (properties what)) (pairs_given what ts 0 (properties what))
+pairs_held what ts = either_held (is_only (codes "initial") ts) _ _ (initial_held (properties what)) (pairs_given what ts 0 (properties what))
 
 -- ---- the call
 

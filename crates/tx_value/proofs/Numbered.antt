@@ -1,12 +1,11 @@
 -- Properties of one number are one.
 use Rattle.std.proofs.Common.{◌≡◌, Some, slice_get, refl, ap, sym, ◌∙◌}
-use Rattle.tx_value.specs.Style.{number}
+use Rattle.tx_value.specs.Style.{number, every_property}
 use Rattle.tx_value.specs.declared.property.Property.{Property}
 use Rattle.tx_value.specs.declared.property.Property.TheVariants as property
-use Rattle.tx_value.specs.declared.property.TheConstants.{EVERY_PROPERTY}
 
 -- each property stands at its number
-numbered : (p : Property) → slice_get EVERY_PROPERTY (number p) ≡ Some p
+numbered : (p : Property) → slice_get every_property (number p) ≡ Some p
 unfolding number
 numbered property.Display = refl
 numbered property.Visibility = refl
@@ -52,4 +51,4 @@ numbered property.ContentAlignVertical = refl
 numbered property.TextAlign = refl
 
 pub same_number : (p q : Property) → number p ≡ number q → p ≡ q
-same_number p q same = let e : Some p ≡ Some q = sym (numbered p) ∙ ap (slice_get EVERY_PROPERTY) same ∙ numbered q in cc
+same_number p q same = let e : Some p ≡ Some q = sym (numbered p) ∙ ap (slice_get every_property) same ∙ numbered q in cc

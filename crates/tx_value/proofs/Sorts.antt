@@ -1,6 +1,6 @@
 -- What each sort of values gives passes the test of that sort.
-use Rattle.std.proofs.Common.{◌≡◌, ℕ, zero, suc, pos, neg_ℤ, Bool, true, false, not, ◌&&◌, nat_eq, nat_le, List, [], ◌∷◌, map, drop, Option, Some, None, option_map, cond, refl, ap}
-use Rattle.std.specs.Prelude.{unsigned_abs}
+use Rattle.std.proofs.Common.{◌≡◌, ℕ, zero, suc, pos, neg_ℤ, Bool, true, false, not, ◌&&◌, nat_eq, nat_le, List, [], ◌∷◌, drop, Option, Some, None, option_map, cond, refl, ap}
+use Rattle.std.specs.Prelude.{unsigned_abs, codes}
 use Rattle.std.specs.Option.{option_zip}
 use Rattle.std.proofs.lemmas.Bool.{and_parts, and_from}
 use Rattle.tx_frac.specs.declared.scalars.Scalar.{Scalar}
@@ -12,6 +12,7 @@ use Rattle.tx_text.specs.Name.{is_name}
 use Rattle.tx_value.specs.Names.{keyword, name_in, if_among, among, word_of, is_word, is_only}
 use Rattle.tx_value.specs.Numbers.{Numeral, numeral_of, has_digits, unit_of, sized, scalar_of, auto, size_of, is_share, unless_share, limit_of, is_within, short_number, from_least, whole_of_token, signed_number, signed_of, is_percent_sign, digits, behind_digits, percent_of}
 use Rattle.tx_value.specs.Colours.{alpha_of, inked, ink_of, transparent, rgb_colour, hue_of, colour}
+use Rattle.tx_value.specs.Tables.{units}
 use Rattle.tx_value.specs.Values as values
 use Rattle.tx_value.specs.Holds as holds
 use Rattle.tx_value.specs.declared.value.Hue.{Hue}
@@ -20,7 +21,6 @@ use Rattle.tx_value.specs.declared.value.Ink.{Ink}
 use Rattle.tx_value.specs.declared.value.Value.TheVariants as value
 use Rattle.tx_value.specs.declared.value.Word.{Word}
 use Rattle.tx_value.specs.declared.value.Word.TheVariants.{Nothing}
-use Rattle.tx_value.specs.declared.tables.TheConstants.{UNITS, AUTO, NONE, TRANSPARENT, RGB}
 use Rattle.tx_value.proofs.ShortNumbers.{not_below, AreDigits, numeral_digits, short_amount}
 use Rattle.tx_value.proofs.Passing.{passes, through, weaker, all_pass, of_both, one_of_two, checked, of_alone, of_entry, of_some}
 
@@ -103,7 +103,7 @@ grid_size (c ∷ r ∷ t ∷ ts) = refl
 
 not_auto : (name : List ℕ) → passes (λ u. not (holds.is_auto u)) (unit_of name) ≡ true
 unfolding unit_of
-not_auto name = of_entry (λ u. not (holds.is_auto u)) (map (λ row. (row.0.now, row.1)) UNITS) name refl
+not_auto name = of_entry (λ u. not (holds.is_auto u)) units name refl
 
 sized_passes : (n : Numeral) → AreDigits n → (o : Option Unit) → passes (λ u. not (holds.is_auto u)) o ≡ true → passes holds.is_track (sized n o) ≡ true
 sized_passes n are None h = refl
@@ -124,7 +124,7 @@ sized_track s h = let both = and_parts (holds.is_short s.value) _ h in of (holds
 pub size : (ts : List Lexeme) → passes holds.is_size (values.size ts) ≡ true
 size ts =
     through holds.is_size (λ s. value.Size s) (values.alone size_of ts) (of_alone holds.is_sized size_of ts (λ t.
-    one_of_two holds.is_sized (is_word AUTO.now t) (Some auto) (scalar_of t) refl (weaker holds.is_track holds.is_sized (scalar_of t) sized_track (track t))))
+    one_of_two holds.is_sized (is_word (codes "auto") t) (Some auto) (scalar_of t) refl (weaker holds.is_track holds.is_sized (scalar_of t) sized_track (track t))))
 
 unshared : (o : Option Scalar) → passes holds.is_track o ≡ true → passes (λ s. holds.is_track s && not (is_share s.unit)) (unless_share o) ≡ true
 unshared None h = refl
@@ -136,7 +136,7 @@ unshared (Some s) h = unless (is_share s.unit) refl
 
 pub limit : (ts : List Lexeme) → passes holds.is_limit (values.limit ts) ≡ true
 limit ts = of_alone holds.is_limit values.limit_in ts (λ t.
-    one_of_two holds.is_limit (is_word NONE.now t) (Some (value.Word Nothing)) _ refl (through holds.is_limit (λ s. value.Size s) (limit_of t) (unshared (scalar_of t) (track t))))
+    one_of_two holds.is_limit (is_word (codes "none") t) (Some (value.Word Nothing)) _ refl (through holds.is_limit (λ s. value.Size s) (limit_of t) (unshared (scalar_of t) (track t))))
 
 pub tracks : (ts : List Lexeme) → passes holds.are_tracks (values.tracks ts) ≡ true
 tracks ts = through holds.are_tracks (λ s. value.Sizes s) (values.some_of 60 scalar_of ts) (of_some holds.is_track 60 scalar_of ts track)
@@ -179,8 +179,8 @@ colour_passes : (ts : List Lexeme) → passes holds.is_ink (colour ts) ≡ true
 unfolding colour
 colour_passes [] = refl
 colour_passes (t ∷ ts) =
-    one_of_two holds.is_ink (is_word TRANSPARENT.now t) (transparent ts) _ (clear_passes ts)
-    (one_of_two holds.is_ink (is_word RGB.now t) (rgb_colour ts) _ (ink_passes _ (alpha_of (drop 7 ts)) (alpha (drop 7 ts))) (ink_passes (hue_of t) (alpha_of ts) (alpha ts)))
+    one_of_two holds.is_ink (is_word (codes "transparent") t) (transparent ts) _ (clear_passes ts)
+    (one_of_two holds.is_ink (is_word (codes "rgb") t) (rgb_colour ts) _ (ink_passes _ (alpha_of (drop 7 ts)) (alpha (drop 7 ts))) (ink_passes (hue_of t) (alpha_of ts) (alpha ts)))
 
 pub ink : (ts : List Lexeme) → passes holds.is_colour (values.ink ts) ≡ true
 ink ts = through holds.is_colour (λ i. value.Ink i) (colour ts) (colour_passes ts)
@@ -206,4 +206,4 @@ border (t ∷ ts) = drawn_passes (name_in values.border_kind t) (values.optional
 pub text_style : (ts : List Lexeme) → passes holds.is_text_style (values.text_style ts) ≡ true
 unfolding values.text_style
 text_style [] = refl
-text_style (t ∷ ts) = one_of_two holds.is_text_style (is_only NONE.now (t ∷ ts)) _ _ refl (through holds.is_text_style (λ m. value.Marks m) (values.marks_of (t ∷ ts)) (all_pass _ (values.marks_of (t ∷ ts)) (λ m. refl)))
+text_style (t ∷ ts) = one_of_two holds.is_text_style (is_only (codes "none") (t ∷ ts)) _ _ refl (through holds.is_text_style (λ m. value.Marks m) (values.marks_of (t ∷ ts)) (all_pass _ (values.marks_of (t ∷ ts)) (λ m. refl)))

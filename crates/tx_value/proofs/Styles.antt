@@ -1,14 +1,13 @@
 -- Styles as choices of values.
 use Rattle.std.proofs.Common.{◌≡◌, map, get_or, refl}
 use Rattle.std.proofs.lemmas.List.FromFn.{fill_by_all}
-use Rattle.tx_value.specs.Style.{number, style_value, StylesAreTheirValues, ValuesMakeStyles}
+use Rattle.tx_value.specs.Style.{number, every_property, style_value, StylesAreTheirValues, ValuesMakeStyles}
 use Rattle.tx_value.specs.declared.property.Property.{Property}
 use Rattle.tx_value.specs.declared.property.Property.TheVariants as property
-use Rattle.tx_value.specs.declared.property.TheConstants.{EVERY_PROPERTY}
 use Rattle.tx_value.specs.declared.value.Value.{Value}
 use Rattle.tx_value.specs.declared.value.Value.TheVariants.{Initial}
 
-chosen : (choice : Property → Value) (p : Property) → style_value (map choice EVERY_PROPERTY) p ≡ choice p
+chosen : (choice : Property → Value) (p : Property) → style_value (map choice every_property) p ≡ choice p
 unfolding number
 chosen choice property.Display = refl
 chosen choice property.Visibility = refl

@@ -1,10 +1,11 @@
 -- What a declaration stands for.
-use Rattle.std.specs.Prelude.{ℕ, ◌+◌, ◌%◌, nat_eq, nat_lt, ◌&&◌, List, [], ◌∷◌, length, take, drop, map, Option, Some, None, option_map, option_and_then, Result, Err, if◌then◌else◌}
+use Rattle.std.specs.Prelude.{ℕ, ◌+◌, ◌%◌, nat_eq, nat_lt, ◌&&◌, List, [], ◌∷◌, length, take, drop, map, Option, Some, None, option_map, option_and_then, Result, Err, codes, if◌then◌else◌}
 use Rattle.std.specs.List.{list_any}
 use Rattle.tx_read.specs.Answer.{or_refused}
 use Rattle.tx_lex.specs.Blanks.{without_blanks}
 use Rattle.tx_lex.specs.Lexemes.{Lexeme}
 use Rattle.tx_value.specs.Names.{is_only, meaning_of}
+use Rattle.tx_value.specs.Tables.{properties}
 use Rattle.tx_value.specs.Values.{joined, value_of}
 use Rattle.tx_value.specs.declared.fault.ValueFault.{ValueFault}
 use Rattle.tx_value.specs.declared.fault.ValueFault.TheVariants.{UnknownProperty, BadValue}
@@ -13,20 +14,9 @@ use Rattle.tx_value.specs.declared.property.Named.TheVariants.{Longhand, Margin,
 use Rattle.tx_value.specs.declared.property.Property.{Property}
 use Rattle.tx_value.specs.declared.value.Value.{Value}
 use Rattle.tx_value.specs.declared.value.Value.TheVariants.{Initial}
-use Rattle.tx_value.specs.declared.tables.TheConstants.{INITIAL, MARGINS, PADDINGS, BORDER_SIDES, OVERFLOW_AXES, ALIGN_AXES, CONTENT_ALIGN_AXES}
 
 abbrev pub Pair : Type 0
 Pair = Property × Value
-
--- the properties that a name stands for, in their order
-abbrev pub properties : Named → List Property
-properties (Longhand one) = one ∷ []
-properties Margin = MARGINS
-properties Padding = PADDINGS
-properties Border = BORDER_SIDES
-properties Overflow = OVERFLOW_AXES
-properties Align = ALIGN_AXES
-properties ContentAlign = CONTENT_ALIGN_AXES
 
 -- ---- the tokens of each property
 
@@ -61,7 +51,7 @@ all_initial properties = map (λ p. (p, Initial)) properties
 
 -- `initial` alone, or the values of the properties
 unfoldable pub pairs_of : Named → List Lexeme → Option (List Pair)
-pairs_of what ts = if is_only INITIAL.now ts then Some (all_initial (properties what)) else pairs_from what ts 0 (properties what)
+pairs_of what ts = if is_only (codes "initial") ts then Some (all_initial (properties what)) else pairs_from what ts 0 (properties what)
 
 -- the pairs that a declaration stands for: of a known name, by its tokens
 abbrev pub valued : Option Named → List Lexeme → Result (List Pair) ValueFault

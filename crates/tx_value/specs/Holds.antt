@@ -9,6 +9,7 @@ use Rattle.tx_text.specs.Name.{is_name}
 use Rattle.tx_value.specs.Names.{same_word, among}
 use Rattle.tx_lex.specs.Digits.{most_whole, most_decimals}
 use Rattle.tx_value.specs.Numbers.{is_share, is_within}
+use Rattle.tx_value.specs.Tables.{displays, visibilities, layouts, docks, box_sizings, overflows, places_across, places_down}
 use Rattle.tx_value.specs.declared.property.Property.{Property}
 use Rattle.tx_value.specs.declared.property.Property.TheVariants as property
 use Rattle.tx_value.specs.declared.value.Ink.{Ink}
@@ -17,7 +18,6 @@ use Rattle.tx_value.specs.declared.value.Value.{Value}
 use Rattle.tx_value.specs.declared.value.Value.TheVariants as value
 use Rattle.tx_value.specs.declared.value.Word.{Word}
 use Rattle.tx_value.specs.declared.value.Word.TheVariants.{Nothing}
-use Rattle.tx_value.specs.declared.tables.TheConstants.{DISPLAYS, VISIBILITIES, LAYOUTS, DOCKS, BOX_SIZINGS, OVERFLOWS, PLACES_ACROSS, PLACES_DOWN}
 
 -- ---- sorts of values
 
@@ -123,17 +123,17 @@ is_layer _ = false
 
 -- `initial` aside
 unfoldable pub is_given : Property → Value → Bool
-is_given property.Display v = is_word DISPLAYS v
-is_given property.Visibility v = is_word VISIBILITIES v
-is_given property.Layout v = is_word LAYOUTS v
-is_given property.Dock v = is_word DOCKS v
+is_given property.Display v = is_word displays v
+is_given property.Visibility v = is_word visibilities v
+is_given property.Layout v = is_word layouts v
+is_given property.Dock v = is_word docks v
 is_given property.Width v = is_size v
 is_given property.Height v = is_size v
 is_given property.MinWidth v = is_limit v
 is_given property.MaxWidth v = is_limit v
 is_given property.MinHeight v = is_limit v
 is_given property.MaxHeight v = is_limit v
-is_given property.BoxSizing v = is_word BOX_SIZINGS v
+is_given property.BoxSizing v = is_word box_sizings v
 is_given property.MarginTop v = is_whole 0 9999 v
 is_given property.MarginRight v = is_whole 0 9999 v
 is_given property.MarginBottom v = is_whole 0 9999 v
@@ -157,14 +157,14 @@ is_given property.ColumnSpan v = is_whole 1 100 v
 is_given property.RowSpan v = is_whole 1 100 v
 is_given property.Layers v = are_layers v
 is_given property.Layer v = is_layer v
-is_given property.OverflowX v = is_word OVERFLOWS v
-is_given property.OverflowY v = is_word OVERFLOWS v
+is_given property.OverflowX v = is_word overflows v
+is_given property.OverflowY v = is_word overflows v
 is_given property.Offset v = is_offset v
-is_given property.AlignHorizontal v = is_word PLACES_ACROSS v
-is_given property.AlignVertical v = is_word PLACES_DOWN v
-is_given property.ContentAlignHorizontal v = is_word PLACES_ACROSS v
-is_given property.ContentAlignVertical v = is_word PLACES_DOWN v
-is_given property.TextAlign v = is_word PLACES_ACROSS v
+is_given property.AlignHorizontal v = is_word places_across v
+is_given property.AlignVertical v = is_word places_down v
+is_given property.ContentAlignHorizontal v = is_word places_across v
+is_given property.ContentAlignVertical v = is_word places_down v
+is_given property.TextAlign v = is_word places_across v
 
 -- `initial`, or what the table gives
 abbrev pub may_hold : Property → Value → Bool

@@ -1,11 +1,14 @@
 pub mod Answers
+pub mod ColourTables
 pub mod Colours
 pub mod Declarations
+pub mod HexColours
 pub mod Holds
 pub mod Initial
 pub mod Names
 pub mod Numbers
 pub mod Parts
 pub mod Style
+pub mod Tables
 pub mod Theme
 pub mod Values

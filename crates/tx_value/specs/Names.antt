@@ -1,13 +1,13 @@
 -- Names and keywords, each found in its table.
-use Rattle.std.specs.Prelude.{ℕ, Bool, false, List, [], ◌∷◌, Option, Some, None, bytes_eq, is_some, map, if◌then◌else◌}
-use Rattle.std.specs.List.{list_any, flat_map}
+use Rattle.std.specs.Prelude.{ℕ, Bool, false, List, [], ◌∷◌, Option, Some, None, bytes_eq, is_some, if◌then◌else◌}
+use Rattle.std.specs.List.{list_any}
 use Rattle.tx_read.specs.Words.{entry}
 use Rattle.tx_lex.specs.Lexemes.{Lexeme, is_name_token}
+use Rattle.tx_value.specs.Tables.{names, keywords}
 use denote.Enum.Bare.{sameb}
 use Rattle.tx_value.specs.contracts.value.Word.{the_type}
 use Rattle.tx_value.specs.declared.value.Word.{Word}
 use Rattle.tx_value.specs.declared.property.Named.{Named}
-use Rattle.tx_value.specs.declared.tables.TheConstants.{NAMES, WORDS}
 
 -- what a table has at a name, where there is a table
 abbrev pub entry_in : {A : Type 0} → Option (List (List ℕ × A)) → List ℕ → Option A
@@ -43,7 +43,7 @@ if_among choices (Some word) = if among choices word then Some word else None
 
 -- the keyword of a name
 unfoldable pub keyword : List ℕ → Option Word
-keyword name = entry (map (λ row. (row.0.now, row.1)) WORDS) name
+keyword name = entry keywords name
 
 -- a keyword, where it is one of these
 abbrev pub word_of : List Word → Lexeme → Option Word
@@ -51,13 +51,9 @@ word_of choices t = if_among choices (name_in keyword t)
 
 -- ---- names of declarations
 
--- those of each length, with what each stands for
-abbrev pub tables : List (List (List ℕ × Named))
-tables = map (λ table. map (λ row. (row.0.now, row.1)) table.now) NAMES
-
 -- all of them
 unfoldable pub all_names : List (List ℕ × Named)
-all_names = flat_map (λ table. table) tables
+all_names = names
 
 -- what a name of a declaration stands for
 abbrev pub meaning_of : List ℕ → Option Named

@@ -1,5 +1,5 @@
 -- Numbers and sizes in values.
-use Rattle.std.specs.Prelude.{ℕ, ◌+◌, ◌*◌, ◌^◌, ℤ, pos, neg_ℤ, Bool, true, false, ◌&&◌, nat_eq, nat_lt, nat_le, List, [], ◌∷◌, length, take, drop, map, Option, Some, None, option_map, bytes_eq, if◌then◌else◌}
+use Rattle.std.specs.Prelude.{ℕ, ◌+◌, ◌*◌, ◌^◌, ℤ, pos, neg_ℤ, Bool, true, false, ◌&&◌, nat_eq, nat_lt, nat_le, List, [], ◌∷◌, length, take, drop, Option, Some, None, option_map, bytes_eq, codes, if◌then◌else◌}
 use Rattle.std.specs.Char.{is_ascii_digit}
 use Rattle.std.specs.List.{prefix_len}
 use Rattle.tx_read.specs.Number.{value, number_at_most}
@@ -11,7 +11,7 @@ use Rattle.tx_lex.specs.Digits.{most_whole, most_decimals}
 use Rattle.tx_lex.specs.Lexemes.{Lexeme, is_number}
 use Rattle.tx_read.specs.Words.{entry}
 use Rattle.tx_value.specs.Names.{is_word}
-use Rattle.tx_value.specs.declared.tables.TheConstants.{UNITS, AUTO}
+use Rattle.tx_value.specs.Tables.{units}
 
 -- from one number to another
 abbrev pub is_within : ℕ → ℕ → ℕ → Bool
@@ -53,7 +53,7 @@ amount whole decimals = lowest (pos (value whole * 10 ^ length decimals + value 
 
 -- the unit of a name; no name is that of cells
 unfoldable pub unit_of : List ℕ → Option Unit
-unit_of name = entry (map (λ row. (row.0.now, row.1)) UNITS) name
+unit_of name = entry units name
 
 abbrev pub sized : Numeral → Option Unit → Option Scalar
 sized n None = None
@@ -68,7 +68,7 @@ auto = record { value = whole_of (pos 0); unit = Auto }
 
 -- the same, or `auto`
 abbrev pub size_of : Lexeme → Option Scalar
-size_of t = if is_word AUTO.now t then Some auto else scalar_of t
+size_of t = if is_word (codes "auto") t then Some auto else scalar_of t
 
 abbrev pub is_share : Unit → Bool
 is_share Fr = true

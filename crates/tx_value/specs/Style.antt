@@ -1,9 +1,8 @@
 -- Styles: one value for each property.
-use Rattle.std.specs.Prelude.{◌≡◌, ℕ, List, length, map, get_or, slice_set}
+use Rattle.std.specs.Prelude.{◌≡◌, ℕ, List, [], ◌∷◌, length, map, get_or, slice_set}
 use Rattle.tx_value.specs.Initial.{initial}
 use Rattle.tx_value.specs.declared.property.Property.{Property}
 use Rattle.tx_value.specs.declared.property.Property.TheVariants.{Display, Visibility, Layout, Dock, Width, Height, MinWidth, MaxWidth, MinHeight, MaxHeight, BoxSizing, MarginTop, MarginRight, MarginBottom, MarginLeft, PaddingTop, PaddingRight, PaddingBottom, PaddingLeft, BorderTop, BorderRight, BorderBottom, BorderLeft, Background, Color, TextStyle, GridSize, GridColumns, GridRows, GridGutter, ColumnSpan, RowSpan, Layers, Layer, OverflowX, OverflowY, Offset, AlignHorizontal, AlignVertical, ContentAlignHorizontal, ContentAlignVertical, TextAlign}
-use Rattle.tx_value.specs.declared.property.TheConstants.{EVERY_PROPERTY}
 use Rattle.tx_value.specs.declared.value.Value.{Value}
 use Rattle.tx_value.specs.declared.value.Value.TheVariants.{Initial}
 
@@ -52,6 +51,53 @@ number ContentAlignHorizontal = 39
 number ContentAlignVertical = 40
 number TextAlign = 41
 
+-- all of them in that order
+abbrev pub every_property : List Property
+every_property =
+    Display ∷
+    Visibility ∷
+    Layout ∷
+    Dock ∷
+    Width ∷
+    Height ∷
+    MinWidth ∷
+    MaxWidth ∷
+    MinHeight ∷
+    MaxHeight ∷
+    BoxSizing ∷
+    MarginTop ∷
+    MarginRight ∷
+    MarginBottom ∷
+    MarginLeft ∷
+    PaddingTop ∷
+    PaddingRight ∷
+    PaddingBottom ∷
+    PaddingLeft ∷
+    BorderTop ∷
+    BorderRight ∷
+    BorderBottom ∷
+    BorderLeft ∷
+    Background ∷
+    Color ∷
+    TextStyle ∷
+    GridSize ∷
+    GridColumns ∷
+    GridRows ∷
+    GridGutter ∷
+    ColumnSpan ∷
+    RowSpan ∷
+    Layers ∷
+    Layer ∷
+    OverflowX ∷
+    OverflowY ∷
+    Offset ∷
+    AlignHorizontal ∷
+    AlignVertical ∷
+    ContentAlignHorizontal ∷
+    ContentAlignVertical ∷
+    TextAlign ∷
+    []
+
 -- a value for each property, in that order
 abbrev pub Values : Type 0
 Values = List Value
@@ -69,12 +115,12 @@ with_value style property value = slice_set style (number property) value
 
 -- the initial value of each
 abbrev pub initial_style : List Value
-initial_style = map initial EVERY_PROPERTY
+initial_style = map initial every_property
 
 -- a style is what its values for all properties make
 abbrev pub StylesAreTheirValues : Type 0
-StylesAreTheirValues = (style : List Value) → IsStyle style → style ≡ map (style_value style) EVERY_PROPERTY
+StylesAreTheirValues = (style : List Value) → IsStyle style → style ≡ map (style_value style) every_property
 
 -- and any choice of values makes one
 abbrev pub ValuesMakeStyles : Type 0
-ValuesMakeStyles = (choice : Property → Value) → IsStyle (map choice EVERY_PROPERTY) × ((property : Property) → style_value (map choice EVERY_PROPERTY) property ≡ choice property)
+ValuesMakeStyles = (choice : Property → Value) → IsStyle (map choice every_property) × ((property : Property) → style_value (map choice every_property) property ≡ choice property)

@@ -1,5 +1,5 @@
 -- The values of each property, as the table of properties has them. Spaces and comments are left out before.
-use Rattle.std.specs.Prelude.{ℕ, ℤ, pos, ◌&&◌, List, [], ◌∷◌, length, map, Option, Some, None, option_map, if◌then◌else◌}
+use Rattle.std.specs.Prelude.{ℕ, ℤ, pos, ◌&&◌, List, [], ◌∷◌, length, Option, Some, None, option_map, codes, if◌then◌else◌}
 use Rattle.std.specs.Option.{option_zip}
 use Rattle.tx_geom.specs.Marks.{no_marks, with_marks}
 use Rattle.tx_geom.specs.declared.choices.BorderKind.{BorderKind}
@@ -10,6 +10,7 @@ use Rattle.tx_read.specs.Words.{entry}
 use Rattle.tx_value.specs.Names.{is_word, is_only, name_in, word_of}
 use Rattle.tx_value.specs.Numbers.{is_within, scalar_of, size_of, limit_of, whole_of_token, signed_of}
 use Rattle.tx_value.specs.Colours.{colour}
+use Rattle.tx_value.specs.Tables.{displays, visibilities, layouts, docks, box_sizings, overflows, places_across, places_down, borders, marks}
 use Rattle.tx_value.specs.declared.property.Property.{Property}
 use Rattle.tx_value.specs.declared.property.Property.TheVariants as property
 use Rattle.tx_value.specs.declared.value.Ink.{Ink}
@@ -17,7 +18,6 @@ use Rattle.tx_value.specs.declared.value.Value.{Value}
 use Rattle.tx_value.specs.declared.value.Value.TheVariants as value
 use Rattle.tx_value.specs.declared.value.Word.{Word}
 use Rattle.tx_value.specs.declared.value.Word.TheVariants.{Nothing}
-use Rattle.tx_value.specs.declared.tables.TheConstants.{DISPLAYS, VISIBILITIES, LAYOUTS, DOCKS, BOX_SIZINGS, OVERFLOWS, PLACES_ACROSS, PLACES_DOWN, NONE, BORDERS, MARKS}
 
 -- ---- one token, or some of one sort
 
@@ -52,7 +52,7 @@ size ts = option_map (λ s. value.Size s) (alone size_of ts)
 
 -- `none`, or a size without `fr` and `auto`
 abbrev pub limit_in : Lexeme → Option Value
-limit_in t = if is_word NONE.now t then Some (value.Word Nothing) else option_map (λ s. value.Size s) (limit_of t)
+limit_in t = if is_word (codes "none") t then Some (value.Word Nothing) else option_map (λ s. value.Size s) (limit_of t)
 
 abbrev pub limit : List Lexeme → Option Value
 limit ts = alone limit_in ts
@@ -67,7 +67,7 @@ optional_colour (t ∷ ts) = option_map (λ ink. Some ink) (colour (t ∷ ts))
 
 -- of a name, the kind or that there is none
 unfoldable pub border_kind : List ℕ → Option (Option BorderKind)
-border_kind name = entry (map (λ row. (row.0.now, row.1)) BORDERS) name
+border_kind name = entry borders name
 
 -- `none` is no border, whatever its colour
 abbrev pub drawn : Option BorderKind → Option Ink → Value
@@ -85,7 +85,7 @@ ink ts = option_map (λ i. value.Ink i) (colour ts)
 
 -- a mark of a text
 unfoldable pub mark_of : List ℕ → Option TextStyle
-mark_of name = entry (map (λ row. (row.0.now, row.1)) MARKS) name
+mark_of name = entry marks name
 
 abbrev pub marked : Option TextStyle → Option TextStyle → Option TextStyle
 marked mark more = option_map (λ both. with_marks both.0 both.1) (option_zip mark more)
@@ -97,7 +97,7 @@ marks_of (t ∷ ts) = marked (name_in mark_of t) (marks_of ts)
 -- `none`, or one or more marks
 unfoldable pub text_style : List Lexeme → Option Value
 text_style [] = None
-text_style (t ∷ ts) = if is_only NONE.now (t ∷ ts) then Some (value.Marks no_marks) else option_map (λ m. value.Marks m) (marks_of (t ∷ ts))
+text_style (t ∷ ts) = if is_only (codes "none") (t ∷ ts) then Some (value.Marks no_marks) else option_map (λ m. value.Marks m) (marks_of (t ∷ ts))
 
 -- columns, and rows where they are given
 unfoldable pub grid_size : List Lexeme → Option Value
@@ -143,17 +143,17 @@ layer ts = option_map (λ name. value.Layer name) (alone name_of ts)
 -- ---- the table of properties
 
 unfoldable pub value_of : Property → List Lexeme → Option Value
-value_of property.Display ts = word DISPLAYS ts
-value_of property.Visibility ts = word VISIBILITIES ts
-value_of property.Layout ts = word LAYOUTS ts
-value_of property.Dock ts = word DOCKS ts
+value_of property.Display ts = word displays ts
+value_of property.Visibility ts = word visibilities ts
+value_of property.Layout ts = word layouts ts
+value_of property.Dock ts = word docks ts
 value_of property.Width ts = size ts
 value_of property.Height ts = size ts
 value_of property.MinWidth ts = limit ts
 value_of property.MaxWidth ts = limit ts
 value_of property.MinHeight ts = limit ts
 value_of property.MaxHeight ts = limit ts
-value_of property.BoxSizing ts = word BOX_SIZINGS ts
+value_of property.BoxSizing ts = word box_sizings ts
 value_of property.MarginTop ts = whole 0 9999 ts
 value_of property.MarginRight ts = whole 0 9999 ts
 value_of property.MarginBottom ts = whole 0 9999 ts
@@ -177,11 +177,11 @@ value_of property.ColumnSpan ts = whole 1 100 ts
 value_of property.RowSpan ts = whole 1 100 ts
 value_of property.Layers ts = layers ts
 value_of property.Layer ts = layer ts
-value_of property.OverflowX ts = word OVERFLOWS ts
-value_of property.OverflowY ts = word OVERFLOWS ts
+value_of property.OverflowX ts = word overflows ts
+value_of property.OverflowY ts = word overflows ts
 value_of property.Offset ts = offset ts
-value_of property.AlignHorizontal ts = word PLACES_ACROSS ts
-value_of property.AlignVertical ts = word PLACES_DOWN ts
-value_of property.ContentAlignHorizontal ts = word PLACES_ACROSS ts
-value_of property.ContentAlignVertical ts = word PLACES_DOWN ts
-value_of property.TextAlign ts = word PLACES_ACROSS ts
+value_of property.AlignHorizontal ts = word places_across ts
+value_of property.AlignVertical ts = word places_down ts
+value_of property.ContentAlignHorizontal ts = word places_across ts
+value_of property.ContentAlignVertical ts = word places_down ts
+value_of property.TextAlign ts = word places_across ts

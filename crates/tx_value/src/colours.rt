@@ -2,7 +2,8 @@
 ghost use Rattle.std.specs.Prelude.{◌≡◌, ◌≤◌, ◌<◌, Some, IfSome};
 ghost use Rattle.tx_lex.specs.Lexemes.{lexeme, lexemes};
 ghost use Rattle.tx_value.specs.Numbers.{whole_of_token};
-ghost use Rattle.tx_value.specs.Colours.{hex_digit, hex_channel, rgb_of, hex_colour, colour_named, hue_of, are_marks, channels, alpha_of, inked, ink_of, clear, rgb_colour, colour};
+ghost use Rattle.tx_value.specs.HexColours.{hex_digit, hex_channel, rgb_of, hex_colour};
+ghost use Rattle.tx_value.specs.Colours.{colour_named, hue_of, are_marks, channels, alpha_of, inked, ink_of, clear, rgb_colour, colour};
 
 use crate::names::is_word;
 use crate::numbers::{percent_of, whole_of};

@@ -4,8 +4,9 @@ ghost use Rattle.tx_read.specs.Answer.{Gives};
 ghost use Rattle.tx_lex.specs.Blanks.{without_blanks};
 ghost use Rattle.tx_lex.specs.Lexemes.{lexemes};
 ghost use Rattle.tx_value.specs.Answers.{told, GivesSome};
-ghost use Rattle.tx_value.specs.Declarations.{properties, nth_in_turn, share, pairs_from, all_initial, pairs_of, declaration};
+ghost use Rattle.tx_value.specs.Declarations.{nth_in_turn, share, pairs_from, all_initial, pairs_of, declaration};
 ghost use Rattle.tx_value.specs.Holds.{AllHold};
+ghost use Rattle.tx_value.specs.Tables.{properties};
 ghost use Rattle.tx_value.specs.Values.{value_of};
 
 use crate::fault::ValueFault;

@@ -1,6 +1,7 @@
 //! The colours that a theme gives.
 ghost use Rattle.std.specs.Prelude.{◌≡◌};
-ghost use Rattle.tx_value.specs.Theme.{theme_name_of, theme_colour, tones_of};
+ghost use Rattle.tx_value.specs.ColourTables.{tones_of};
+ghost use Rattle.tx_value.specs.Theme.{theme_name_of, theme_colour};
 
 use crate::tables::rgb;
 use tx_geom::Rgb;
