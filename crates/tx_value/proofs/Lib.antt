@@ -1,10 +1,12 @@
 pub mod Digits
 pub mod Held
+pub mod InitialReads
 pub mod Joined
 pub mod LeftOut
 pub mod NameTables
 pub mod Numbered
 pub mod Passing
+pub mod ReadBounds
 pub mod Shares
 pub mod ShortNumbers
 pub mod Sorts

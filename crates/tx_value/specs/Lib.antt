@@ -4,11 +4,16 @@ pub mod Colours
 pub mod Declarations
 pub mod HexColours
 pub mod Holds
+pub mod Inheritance
 pub mod Initial
+pub mod Laws
 pub mod Names
 pub mod Numbers
 pub mod Parts
 pub mod Style
+pub mod StyleReads
 pub mod Tables
 pub mod Theme
+pub mod ValueReads
 pub mod Values
+pub mod WordMeanings

@@ -11,7 +11,7 @@ use tx_frac::{Frac, Scalar, Unit};
 use tx_geom::TextStyle;
 
 /// 100 percent.
-fn whole_size() -> Scalar
+pub fn whole_size() -> Scalar
     ensures { result ≡ whole_size }
 {
     Scalar {

@@ -37,7 +37,7 @@ pub fn is_only(word: &[u8], text: &[u8], parts: &[Token]) -> bool
     }
 }
 
-fn same_word(a: Word, b: Word) -> bool
+pub fn same_word(a: Word, b: Word) -> bool
     ensures { result ≡ same_word a b }
 {
     a == b

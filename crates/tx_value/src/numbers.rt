@@ -119,7 +119,7 @@ pub fn size_of(text: &[u8], token: Token) -> Option<Scalar>
     }
 }
 
-fn is_share(unit: Unit) -> bool
+pub fn is_share(unit: Unit) -> bool
     ensures { result ≡ is_share unit }
 {
     matches!(unit, Unit::Fr)

@@ -1,4 +1,6 @@
 //! The properties of a row.
+ghost use Rattle.std.specs.Prelude.{◌≡◌};
+ghost use Rattle.tx_value.specs.Style.{every_property};
 
 /// A property that has one value, called as in TCSS: `MarginTop` is `margin-top`.
 ///
@@ -113,3 +115,10 @@ pub const EVERY_PROPERTY: [Property; 42] = [
     Property::ContentAlignVertical,
     Property::TextAlign,
 ];
+
+/// Every property, in the order of [`Property`].
+pub fn all_properties() -> &'static [Property]
+    ensures { result.now ≡ every_property }
+{
+    &EVERY_PROPERTY
+}
