@@ -14,7 +14,7 @@ use tx_lex::tokens;
 // ---- values as short texts
 
 /// A size in thousandths.
-fn size_text(alloc: Global, size: &Scalar) -> Result<String, AllocError> {
+pub fn size_text(alloc: Global, size: &Scalar) -> Result<String, AllocError> {
     let thousandths = match size.value.mul(Frac::whole(1000)) {
         Some(value) => value.floor(),
         None => -1,
@@ -22,11 +22,11 @@ fn size_text(alloc: Global, size: &Scalar) -> Result<String, AllocError> {
     Ok(format!(in alloc; "{thousandths}{:?}", size.unit)?)
 }
 
-fn rgb_text(alloc: Global, rgb: Rgb) -> Result<String, AllocError> {
+pub fn rgb_text(alloc: Global, rgb: Rgb) -> Result<String, AllocError> {
     Ok(format!(in alloc; "{:02x}{:02x}{:02x}", rgb.r, rgb.g, rgb.b)?)
 }
 
-fn ink_text(alloc: Global, ink: &Ink) -> Result<String, AllocError> {
+pub fn ink_text(alloc: Global, ink: &Ink) -> Result<String, AllocError> {
     match ink {
         Ink::Fixed(colour) => {
             let rgb = rgb_text(alloc, colour.rgb)?;
@@ -40,7 +40,7 @@ fn mark_text(on: bool, letter: &'static str) -> &'static str {
     if on { letter } else { "-" }
 }
 
-fn marks_text(alloc: Global, marks: &TextStyle) -> Result<String, AllocError> {
+pub fn marks_text(alloc: Global, marks: &TextStyle) -> Result<String, AllocError> {
     let mut shown = String::new(alloc);
     shown.push_str(mark_text(marks.bold, "b"))?;
     shown.push_str(mark_text(marks.dim, "d"))?;
@@ -109,7 +109,7 @@ fn pairs_text(alloc: Global, pairs: &[(Property, Value)]) -> Result<String, Allo
 }
 
 /// What is read of a name and values with a `:` between them.
-fn answer(alloc: Global, declaration: &str) -> Result<String, Fail> {
+pub fn answer(alloc: Global, declaration: &str) -> Result<String, Fail> {
     if declaration.len() >= 10_000 {
         return Err(Fail::from("a long text"));
     }
@@ -138,22 +138,35 @@ display: Block => bad\n\
 display: block none => bad\n\
 display: => bad\n\
 display: visible => bad\n\
+visibility: visible => Visibility=Visible\n\
 visibility: hidden => Visibility=Hidden\n\
 visibility: none => bad\n\
+layout: vertical => Layout=Vertical\n\
+layout: horizontal => Layout=Horizontal\n\
 layout: grid => Layout=Grid\n\
 layout: dock => bad\n\
+dock: top => Dock=Top\n\
+dock: right => Dock=Right\n\
+dock: bottom => Dock=Bottom\n\
 dock: left => Dock=Left\n\
 dock: none => Dock=Nothing\n\
 dock: center => bad\n\
+box-sizing: border-box => BoxSizing=BorderBox\n\
 box-sizing: content-box => BoxSizing=ContentBox\n\
 box-sizing: auto => bad\n\
+overflow-x: auto => OverflowX=Auto\n\
 overflow-x: scroll => OverflowX=Scroll\n\
 overflow-x: visible => bad\n\
 overflow-y: auto => OverflowY=Auto\n\
+overflow-y: hidden => OverflowY=Hidden\n\
 overflow-y: auto auto => bad\n\
+align-horizontal: left => AlignHorizontal=Left\n\
 align-horizontal: center => AlignHorizontal=Center\n\
+align-horizontal: right => AlignHorizontal=Right\n\
 align-horizontal: middle => bad\n\
+align-vertical: top => AlignVertical=Top\n\
 align-vertical: middle => AlignVertical=Middle\n\
+align-vertical: bottom => AlignVertical=Bottom\n\
 align-vertical: center => bad\n\
 content-align-horizontal: right => ContentAlignHorizontal=Right\n\
 content-align-horizontal: top => bad\n\
@@ -188,12 +201,20 @@ min-height: none none => bad\n\
 max-height: 000000001.50vh => MaxHeight=1500Vh\n\
 max-height: 1vq => bad\n\
 margin-top: 9999 => MarginTop=9999\n\
+margin-top: -1 => bad\n\
+margin-right: 1 => MarginRight=1\n\
 margin-right: 10000 => bad\n\
+margin-bottom: 2 => MarginBottom=2\n\
 margin-bottom: 1.0 => bad\n\
+margin-left: 3 => MarginLeft=3\n\
 margin-left: 1% => bad\n\
 padding-top: 0 => PaddingTop=0\n\
+padding-top: auto => bad\n\
+padding-right: 4 => PaddingRight=4\n\
 padding-right: -1 => bad\n\
 padding-bottom: 007 => PaddingBottom=7\n\
+padding-bottom: 1h => bad\n\
+padding-left: 6 => PaddingLeft=6\n\
 padding-left: 1 2 => bad\n\
 column-span: 100 => ColumnSpan=100\n\
 column-span: 101 => bad\n\
@@ -269,6 +290,7 @@ color: 50% red => bad\n\
 color: #12 => bad\n\
 color: #12345g => bad\n\
 color: #1234 => bad\n\
+background: => bad\n\
 background: transparent => Background=000000@0\n\
 background: transparent 50% => bad\n\
 background: $primary => Background=Primary@100\n\
@@ -308,6 +330,7 @@ border-left: none => BorderLeft=Nothing\n\
 border-left: none red => BorderLeft=Nothing\n\
 border-top: red => bad\n\
 border-top: red solid => bad\n\
+border-left: heavy => BorderLeft=Heavy\n\
 border-right: blank ascii => bad\n\
 border-bottom: dashed => bad\n\
 border-left: none none => bad\n\
