@@ -10,7 +10,7 @@ use Rattle.tx_io.specs.Sink.{SinkSeen}
 use Rattle.tx_term.specs.Gather.{Gathered, Adds}
 use Rattle.tx_term.specs.Update.{Mark, Move, Write, written, move_bytes, cell_bytes, Unit, runs, longer, run_marks, is_plain_cell, units, unit_differs, row_marks, rows_marks}
 use Rattle.tx_term.specs.declared.update.writer.Writer.{Writer}
-use Rattle.tx_term.proofs.GatherLemmas.{Adds-then, Adds-nothing, Adds-along}
+use Rattle.tx_term.proofs.GatherLemmas.{Adds-then, Adds-nothing}
 
 pub written-append : (last : Option Pen) (a b : List Mark) → written last (a ++ b) ≡ written last a ++ written (pen_after last a) b
 written-append last [] b = refl
@@ -226,8 +226,6 @@ rows_end whole row shown next marks past all =
 -- a writer that wrote nothing before
 pub Adds-start : {s0 s1 : SinkSeen} {g : Gathered} (w : Writer) (x : List ℕ) (marks : List Mark)
     → w ≡ record { gather = record { waiting = []; taken = 0; failed = false }; pen = None }
-    → Adds s0 s1 w.gather g ((x ++ written w.pen marks) ++ [])
-    → Adds s0 s1 (record { waiting = []; taken = 0; failed = false }) g (x ++ written None marks)
-Adds-start {s0 = s0} {s1 = s1} {g = g} w x marks fresh added =
-    Adds-along ((x ++ written None marks) ++ []) (x ++ written None marks) (append-nil (x ++ written None marks))
-    (subst (λ v. Adds s0 s1 v.gather g ((x ++ written v.pen marks) ++ [])) fresh added)
+    → Adds s0 s1 w.gather g (x ++ (written w.pen marks ++ []))
+    → Adds s0 s1 (record { waiting = []; taken = 0; failed = false }) g (x ++ (written None marks ++ []))
+Adds-start {s0 = s0} {s1 = s1} {g = g} w x marks fresh added = subst (λ v. Adds s0 s1 v.gather g (x ++ (written v.pen marks ++ []))) fresh added

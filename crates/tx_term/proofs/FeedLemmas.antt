@@ -6,6 +6,7 @@ use Rattle.std.specs.List.{list_all}
 use Rattle.tx_cell.proofs.lemmas.MadeCells.{cell_of-nothing}
 use Rattle.tx_cell.specs.Cell.{cell_of}
 use Rattle.tx_term.specs.Canvas.{CanvasValue, put_held, held_cell, fitting, drawn, columns_of}
+use Rattle.tx_term.specs.Laws.{BytesFollow}
 use Rattle.tx_term.specs.Machine.{Machine, fed, step, ended, run, stage_of, longer_by}
 use Rattle.tx_term.specs.Sequence.{command_of}
 use Rattle.tx_term.specs.declared.machine.command.Command.TheVariants.{Nothing}
@@ -20,6 +21,9 @@ fold-append machine (byte ∷ a) b = fold-append (step machine byte) a b
 pub fed-append : (machine : Machine) (a b : List ℕ) → fed machine (a ++ b) ≡ fed (fed machine a) b
 unfolding fed
 fed-append machine a b = fold-append machine a b
+
+pub bytes_follow : BytesFollow
+bytes_follow machine first second = sym (fed-append machine first second)
 
 pub fed-nothing : (machine : Machine) → fed machine [] ≡ machine
 unfolding fed

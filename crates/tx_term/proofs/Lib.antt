@@ -9,5 +9,6 @@ pub mod NumberLemmas
 pub mod RowLemmas
 pub mod SequenceLemmas
 pub mod SettingLemmas
+pub mod SizeLemmas
 pub mod TextLemmas
 pub mod UnitLemmas

@@ -102,11 +102,11 @@ pen_after-unit last row column behind_plain cell = by (behind_plain && is_plain_
     by true = refl
     by false = refl
 
-pub Stands-rest : {machine : Machine} {grid : GridValue} {last : Option Pen} {row column : ℕ} {behind_plain : Bool} → Stands machine grid last row column behind_plain
-    → (row' column' : ℕ) → Stands machine grid last row' column' false
-Stands-rest stands row' column' = record { ready = stands.ready; drawn = stands.drawn; pen = stands.pen; follows = λ e. cc }
+pub Stands-rest : {modes : Bool × Bool} {machine : Machine} {grid : GridValue} {last : Option Pen} {row column : ℕ} {behind_plain : Bool} → Stands modes machine grid last row column behind_plain
+    → (row' column' : ℕ) → Stands modes machine grid last row' column' false
+Stands-rest stands row' column' = record { modes_are = stands.modes_are; ready = stands.ready; drawn = stands.drawn; pen = stands.pen; follows = λ e. cc }
 
-module _ (size : Size) (before after : List (List CellValue)) (whole : Bool) (high : size.height ≤ 65535) (broad : size.width ≤ 65535) (below : length before < size.height) where
+module _ (modes : Bool × Bool) (size : Size) (before after : List (List CellValue)) (whole : Bool) (high : size.height ≤ 65535) (broad : size.width ≤ 65535) (below : length before < size.height) where
   -- the screen with this row
   abbrev pub with_row : List CellValue → GridValue
   with_row row = record { size = size; rows = before ++ row ∷ after }
@@ -121,14 +121,14 @@ module _ (size : Size) (before after : List (List CellValue)) (whole : Bool) (hi
       (news olds done : List CellValue) (machine : Machine) (last : Option Pen) (behind_plain : Bool)
       → length news ≤ n → length olds ≡ length news → length done + length news ≡ size.width
       → IsWellFormed news → IsRest olds → cut_end done ≡ done
-      → Stands machine (with_row (done ++ cut_front olds)) last (length before) (length done) behind_plain
-      → Stands (fed machine (written last (marks_from behind_plain done olds news))) (with_row (done ++ news)) (pen_after last (marks_from behind_plain done olds news)) 0 0 false
+      → Stands modes machine (with_row (done ++ cut_front olds)) last (length before) (length done) behind_plain
+      → Stands modes (fed machine (written last (marks_from behind_plain done olds news))) (with_row (done ++ news)) (pen_after last (marks_from behind_plain done olds news)) 0 0 false
 
   -- one unit, and the rest
   abbrev AfterUnit : (cell : CellValue) (rest olds done : List CellValue) → Type 0
   AfterUnit cell rest olds done =
-      (machine : Machine) (last : Option Pen) (behind_plain : Bool) → Stands machine (with_row ((done ++ with_tail cell) ++ cut_front olds)) last (length before) (length (done ++ with_tail cell)) behind_plain
-      → Stands (fed machine (written last (marks_from behind_plain (done ++ with_tail cell) olds rest))) (with_row ((done ++ with_tail cell) ++ rest)) (pen_after last (marks_from behind_plain (done ++ with_tail cell) olds rest)) 0 0 false
+      (machine : Machine) (last : Option Pen) (behind_plain : Bool) → Stands modes machine (with_row ((done ++ with_tail cell) ++ cut_front olds)) last (length before) (length (done ++ with_tail cell)) behind_plain
+      → Stands modes (fed machine (written last (marks_from behind_plain (done ++ with_tail cell) olds rest))) (with_row ((done ++ with_tail cell) ++ rest)) (pen_after last (marks_from behind_plain (done ++ with_tail cell) olds rest)) 0 0 false
 
   unit_then : (cell : CellValue) (news olds rest olds' done : List CellValue) (machine : Machine) (last : Option Pen) (behind_plain differs : Bool)
       → IsOfItsText cell
@@ -138,8 +138,8 @@ module _ (size : Size) (before after : List (List CellValue)) (whole : Bool) (hi
       → laid (length done) (with_tail cell) (done ++ cut_front olds) ≡ (done ++ with_tail cell) ++ cut_front olds'
       → (differs ≡ false → done ++ cut_front olds ≡ (done ++ with_tail cell) ++ cut_front olds')
       → AfterUnit cell rest olds' done
-      → Stands machine (with_row (done ++ cut_front olds)) last (length before) (length done) behind_plain
-      → Stands (fed machine (written last (marks_from behind_plain done olds news))) (with_row (done ++ news)) (pen_after last (marks_from behind_plain done olds news)) 0 0 false
+      → Stands modes machine (with_row (done ++ cut_front olds)) last (length before) (length done) behind_plain
+      → Stands modes (fed machine (written last (marks_from behind_plain done olds news))) (with_row (done ++ news)) (pen_after last (marks_from behind_plain done olds news)) 0 0 false
   unit_then cell news olds rest olds' done machine last behind_plain true own inside long are split here same others stands =
       let y = length before in
       let x = length done in
@@ -152,34 +152,34 @@ module _ (size : Size) (before after : List (List CellValue)) (whole : Bool) (hi
       let put : with_put (with_row (done ++ cut_front olds)) x y cell ≡ with_row ((done ++ with_tail cell) ++ cut_front olds') =
       ap (λ rows. record { size = size; rows = rows }) (changed_at-middle (laid x (with_tail cell)) before after (done ++ cut_front olds) ∙ ap (λ row. before ++ row ∷ after) here) in
       let moved = Stands-unit machine (with_row (done ++ cut_front olds)) last y x behind_plain cell stands own below inside high broad in
-      let led = others next (Some cell.pen) (is_plain_cell cell) (subst (λ c. Stands next (with_row ((done ++ with_tail cell) ++ cut_front olds')) (Some cell.pen) y c (is_plain_cell cell)) (sym long)
-      (subst (λ g. Stands next g (Some cell.pen) y (x + cell.width) (is_plain_cell cell)) put moved)) in
+      let led = others next (Some cell.pen) (is_plain_cell cell) (subst (λ c. Stands modes next (with_row ((done ++ with_tail cell) ++ cut_front olds')) (Some cell.pen) y c (is_plain_cell cell)) (sym long)
+      (subst (λ g. Stands modes next g (Some cell.pen) y (x + cell.width) (is_plain_cell cell)) put moved)) in
       let all : fed machine (written last (marks_from behind_plain done olds news)) ≡ fed next (written (Some cell.pen) more) =
       ap (λ m. fed machine (written last m)) marks ∙ ap (fed machine) (written-append last first more) ∙ fed-append machine (written last first) (written (pen_after last first) more)
       ∙ ap (λ p. fed next (written p more)) pen in
       let last_pen : pen_after last (marks_from behind_plain done olds news) ≡ pen_after (Some cell.pen) more =
       ap (pen_after last) marks ∙ pen_after-append last first more ∙ ap (λ p. pen_after p more) pen in
       let row : done ++ news ≡ (done ++ with_tail cell) ++ rest = ap (λ l. done ++ l) split ∙ sym (append_assoc done (with_tail cell) rest) in
-      subst (λ m. Stands m (with_row (done ++ news)) (pen_after last (marks_from behind_plain done olds news)) 0 0 false) (sym all)
-      (subst (λ p. Stands (fed next (written (Some cell.pen) more)) (with_row (done ++ news)) p 0 0 false) (sym last_pen)
-      (subst (λ r. Stands (fed next (written (Some cell.pen) more)) (with_row r) (pen_after (Some cell.pen) more) 0 0 false) (sym row) led))
+      subst (λ m. Stands modes m (with_row (done ++ news)) (pen_after last (marks_from behind_plain done olds news)) 0 0 false) (sym all)
+      (subst (λ p. Stands modes (fed next (written (Some cell.pen) more)) (with_row (done ++ news)) p 0 0 false) (sym last_pen)
+      (subst (λ r. Stands modes (fed next (written (Some cell.pen) more)) (with_row r) (pen_after (Some cell.pen) more) 0 0 false) (sym row) led))
   unit_then cell news olds rest olds' done machine last behind_plain false own inside long are split here same others stands =
       let y = length before in
       let x = length done in
       let more = marks_from false (done ++ with_tail cell) olds' rest in
       let marks : marks_from behind_plain done olds news ≡ more =
       ap (rest_marks y behind_plain) are ∙ rest_marks-same y behind_plain _ (units whole (length (done ++ with_tail cell)) (zip olds' rest)) refl in
-      let led = others machine last false (Stands-rest (subst (λ r. Stands machine (with_row r) last y x behind_plain) (same refl) stands) y (length (done ++ with_tail cell))) in
+      let led = others machine last false (Stands-rest (subst (λ r. Stands modes machine (with_row r) last y x behind_plain) (same refl) stands) y (length (done ++ with_tail cell))) in
       let row : done ++ news ≡ (done ++ with_tail cell) ++ rest = ap (λ l. done ++ l) split ∙ sym (append_assoc done (with_tail cell) rest) in
-      subst (λ m. Stands (fed machine (written last m)) (with_row (done ++ news)) (pen_after last m) 0 0 false) (sym marks)
-      (subst (λ r. Stands (fed machine (written last more)) (with_row r) (pen_after last more) 0 0 false) (sym row) led)
+      subst (λ m. Stands modes (fed machine (written last m)) (with_row (done ++ news)) (pen_after last m) 0 0 false) (sym marks)
+      (subst (λ r. Stands modes (fed machine (written last more)) (with_row r) (pen_after last more) 0 0 false) (sym row) led)
 
   -- a cell in one column
   narrow_step : (n : ℕ) → RowLeads n → (c o : CellValue) (news olds done : List CellValue) (machine : Machine) (last : Option Pen) (behind_plain : Bool)
       → nat_lt 1 c.width ≡ false → length (c ∷ news) ≤ suc n → length (o ∷ olds) ≡ length (c ∷ news) → length done + length (c ∷ news) ≡ size.width
       → IsWellFormed (c ∷ news) → IsRest (o ∷ olds) → cut_end done ≡ done
-      → Stands machine (with_row (done ++ cut_front (o ∷ olds))) last (length before) (length done) behind_plain
-      → Stands (fed machine (written last (marks_from behind_plain done (o ∷ olds) (c ∷ news)))) (with_row (done ++ c ∷ news)) (pen_after last (marks_from behind_plain done (o ∷ olds) (c ∷ news))) 0 0 false
+      → Stands modes machine (with_row (done ++ cut_front (o ∷ olds))) last (length before) (length done) behind_plain
+      → Stands modes (fed machine (written last (marks_from behind_plain done (o ∷ olds) (c ∷ news)))) (with_row (done ++ c ∷ news)) (pen_after last (marks_from behind_plain done (o ∷ olds) (c ∷ news))) 0 0 false
   narrow_step n leads c o news olds done machine last behind_plain narrow few lens total formed rest closed stands =
       let own = formed.0 in
       let head = no_tail c own in
@@ -213,8 +213,8 @@ module _ (size : Size) (before after : List (List CellValue)) (whole : Bool) (hi
   wide_step : (n : ℕ) → RowLeads n → (c t o p : CellValue) (news olds done : List CellValue) (machine : Machine) (last : Option Pen) (behind_plain : Bool)
       → nat_lt 1 c.width ≡ true → length (c ∷ t ∷ news) ≤ suc n → length (o ∷ p ∷ olds) ≡ length (c ∷ t ∷ news) → length done + length (c ∷ t ∷ news) ≡ size.width
       → IsWellFormed (c ∷ t ∷ news) → IsRest (o ∷ p ∷ olds) → cut_end done ≡ done
-      → Stands machine (with_row (done ++ cut_front (o ∷ p ∷ olds))) last (length before) (length done) behind_plain
-      → Stands (fed machine (written last (marks_from behind_plain done (o ∷ p ∷ olds) (c ∷ t ∷ news)))) (with_row (done ++ c ∷ t ∷ news)) (pen_after last (marks_from behind_plain done (o ∷ p ∷ olds) (c ∷ t ∷ news))) 0 0 false
+      → Stands modes machine (with_row (done ++ cut_front (o ∷ p ∷ olds))) last (length before) (length done) behind_plain
+      → Stands modes (fed machine (written last (marks_from behind_plain done (o ∷ p ∷ olds) (c ∷ t ∷ news)))) (with_row (done ++ c ∷ t ∷ news)) (pen_after last (marks_from behind_plain done (o ∷ p ∷ olds) (c ∷ t ∷ news))) 0 0 false
   wide_step n leads c t o p news olds done machine last behind_plain wide few lens total formed rest closed stands =
       let own = formed.0 in
       let head = no_tail c own in
@@ -249,8 +249,8 @@ module _ (size : Size) (before after : List (List CellValue)) (whole : Bool) (hi
   row_by : (n : ℕ) → RowLeads n → (wide : Bool) (c o : CellValue) (news olds done : List CellValue) (machine : Machine) (last : Option Pen) (behind_plain : Bool)
       → nat_lt 1 c.width ≡ wide → length (c ∷ news) ≤ suc n → length (o ∷ olds) ≡ length (c ∷ news) → length done + length (c ∷ news) ≡ size.width
       → IsWellFormed (c ∷ news) → IsRest (o ∷ olds) → cut_end done ≡ done
-      → Stands machine (with_row (done ++ cut_front (o ∷ olds))) last (length before) (length done) behind_plain
-      → Stands (fed machine (written last (marks_from behind_plain done (o ∷ olds) (c ∷ news)))) (with_row (done ++ c ∷ news)) (pen_after last (marks_from behind_plain done (o ∷ olds) (c ∷ news))) 0 0 false
+      → Stands modes machine (with_row (done ++ cut_front (o ∷ olds))) last (length before) (length done) behind_plain
+      → Stands modes (fed machine (written last (marks_from behind_plain done (o ∷ olds) (c ∷ news)))) (with_row (done ++ c ∷ news)) (pen_after last (marks_from behind_plain done (o ∷ olds) (c ∷ news))) 0 0 false
   row_by n leads false c o news olds done machine last behind_plain is few lens total formed rest closed stands =
       narrow_step n leads c o news olds done machine last behind_plain is few lens total formed rest closed stands
   row_by n leads true c o [] olds done machine last behind_plain is few lens total formed rest closed stands = absurd (formed_wide c [] is formed.1)
@@ -261,8 +261,8 @@ module _ (size : Size) (before after : List (List CellValue)) (whole : Bool) (hi
   pub row_leads : (n : ℕ) → RowLeads n
   row_leads n [] [] done machine last behind_plain few lens total formed rest closed stands =
       let none : marks_from behind_plain done [] [] ≡ [] = rest_marks-end (length before) behind_plain in
-      subst (λ m. Stands (fed machine (written last m)) (with_row (done ++ [])) (pen_after last m) 0 0 false) (sym none)
-      (subst (λ m. Stands m (with_row (done ++ [])) last 0 0 false) (sym (fed-nothing machine)) (Stands-rest stands 0 0))
+      subst (λ m. Stands modes (fed machine (written last m)) (with_row (done ++ [])) (pen_after last m) 0 0 false) (sym none)
+      (subst (λ m. Stands modes m (with_row (done ++ [])) last 0 0 false) (sym (fed-nothing machine)) (Stands-rest stands 0 0))
   row_leads n [] (o ∷ olds) done machine last behind_plain few lens total formed rest closed stands = absurd (omega (arith, lens))
   row_leads zero (c ∷ news) olds done machine last behind_plain few lens total formed rest closed stands = absurd (omega (arith, few))
   row_leads (suc n) (c ∷ news) [] done machine last behind_plain few lens total formed rest closed stands = absurd (omega (arith, lens))

@@ -20,6 +20,10 @@ use Rattle.tx_term.specs.Drawing.{unit_marks}
 use Rattle.tx_term.specs.Machine.{Machine, fed, ended}
 use Rattle.tx_term.specs.Update.{Move, Write, written, cell_bytes, is_last_pen, is_plain_cell, move_bytes, pen_bytes}
 
+-- whether the cursor is shown, and whether the screen is the alternate one
+abbrev pub modes_of : Machine → Bool × Bool
+modes_of machine = (machine.cursor_shown, machine.alternate)
+
 -- the pen of the last unit is the present one, if there was one
 abbrev pub IsLast : Option Pen → Pen → Type 0
 IsLast None present = ⊤
@@ -60,29 +64,32 @@ pub record Follows (canvas : CanvasValue) (row column : ℕ) : Type 0 where
   pub at_column : (put_held canvas).column ≡ column
   pub plain : begins_plain (chars canvas.held) ≡ true
 
--- The machine has drawn this grid, but for the held cell that is still to be put, its pen is that of the last unit, and behind a
--- plain unit its cursor stands behind it.
-pub record Stands (machine : Machine) (grid : GridValue) (last : Option Pen) (row column : ℕ) (behind_plain : Bool) : Type 0 where
+-- The machine has these modes and has drawn this grid, but for the held cell that is still to be put, its pen is that of the last
+-- unit, and behind a plain unit its cursor stands behind it.
+pub record Stands (modes : Bool × Bool) (machine : Machine) (grid : GridValue) (last : Option Pen) (row column : ℕ) (behind_plain : Bool) : Type 0 where
+  pub modes_are : modes_of machine ≡ modes
   pub ready : machine.unfinished ≡ []
   pub drawn : (put_held machine.canvas).grid ≡ grid
   pub pen : IsLast last machine.canvas.pen
   pub follows : behind_plain ≡ true → Follows machine.canvas row column
 
 -- a unit that is written, in its place
-pub record Holds (machine : Machine) (grid : GridValue) (row column : ℕ) (cell : CellValue) : Type 0 where
+pub record Holds (modes : Bool × Bool) (machine : Machine) (grid : GridValue) (row column : ℕ) (cell : CellValue) : Type 0 where
+  pub modes_are : modes_of machine ≡ modes
   pub ready : machine.unfinished ≡ []
   pub canvas : machine.canvas ≡ holding grid row column cell
 
-unit_by : (machine : Machine) (grid : GridValue) (last : Option Pen) (row column : ℕ) (behind_plain goes_on : Bool) (cell : CellValue)
-    → (behind_plain && is_plain_cell cell) ≡ goes_on → Stands machine grid last row column behind_plain → IsOfItsText cell
+unit_by : {modes : Bool × Bool} (machine : Machine) (grid : GridValue) (last : Option Pen) (row column : ℕ) (behind_plain goes_on : Bool) (cell : CellValue)
+    → (behind_plain && is_plain_cell cell) ≡ goes_on → Stands modes machine grid last row column behind_plain → IsOfItsText cell
     → row < grid.size.height → column < grid.size.width → grid.size.height ≤ 65535 → grid.size.width ≤ 65535
-    → Holds (fed machine (written last ((cond goes_on [] (Move (row + 1) (column + 1) ∷ [])) ++ Write cell ∷ []))) grid row column cell
+    → Holds modes (fed machine (written last ((cond goes_on [] (Move (row + 1) (column + 1) ∷ [])) ++ Write cell ∷ []))) grid row column cell
 unit_by machine grid last row column behind_plain true cell is stands own below beside high wide =
     let follows = stands.follows (and_parts _ _ is).0 in
     let put = put_held machine.canvas in
     let e = ap (fed machine) (append-nil (cell_bytes last cell))
     ∙ fed-cell_bytes machine cell last stands.ready own (inr (follows.plain, (and_parts _ _ is).1)) stands.pen in
     record {
+      modes_are = ap modes_of e ∙ stands.modes_are;
       ready = ap (λ (m : Machine). m.unfinished) e;
       canvas = ap (λ (m : Machine). m.canvas) e
           ∙ (λ i. record { grid = stands.drawn i; row = follows.at_row i; column = follows.at_column i; pen = cell.pen; held = cell.text });
@@ -101,6 +108,7 @@ unit_by machine grid last row column behind_plain false cell is stands own below
     let at_row : min (row + 1) put.grid.size.height - 1 ≡ row = omega arith in
     let at_column : min (column + 1) put.grid.size.width - 1 ≡ column = omega arith in
     record {
+      modes_are = ap modes_of e ∙ stands.modes_are;
       ready = ap (λ (m : Machine). m.unfinished) e;
       canvas = ap (λ (m : Machine). m.canvas) e
           ∙ (λ i. record { grid = stands.drawn i; row = at_row i; column = at_column i; pen = cell.pen; held = cell.text });
@@ -125,15 +133,16 @@ unfolding is_plain_cell
 plain_begins cell plain = begins_by (chars cell.text) _ refl plain
 
 -- what a unit that is written makes of the machine
-pub Stands-unit : (machine : Machine) (grid : GridValue) (last : Option Pen) (row column : ℕ) (behind_plain : Bool) (cell : CellValue)
-    → Stands machine grid last row column behind_plain → IsOfItsText cell
+pub Stands-unit : {modes : Bool × Bool} (machine : Machine) (grid : GridValue) (last : Option Pen) (row column : ℕ) (behind_plain : Bool) (cell : CellValue)
+    → Stands modes machine grid last row column behind_plain → IsOfItsText cell
     → row < grid.size.height → column + cell.width ≤ grid.size.width → grid.size.height ≤ 65535 → grid.size.width ≤ 65535
-    → Stands (fed machine (written last (unit_marks row column behind_plain cell))) (with_put grid column row cell) (Some cell.pen) row (column + cell.width) (is_plain_cell cell)
+    → Stands modes (fed machine (written last (unit_marks row column behind_plain cell))) (with_put grid column row cell) (Some cell.pen) row (column + cell.width) (is_plain_cell cell)
 Stands-unit machine grid last row column behind_plain cell stands own below inside high wide =
     let made = IsMade-own cell own in
     let holds = unit_by machine grid last row column behind_plain (behind_plain && is_plain_cell cell) cell refl stands own below (omega (arith, made.some)) high wide in
     let put = ap put_held holds.canvas ∙ put_held-holding grid row column cell own inside in
     record {
+      modes_are = holds.modes_are;
       ready = holds.ready;
       drawn = ap (λ (c : CanvasValue). c.grid) put;
       pen = sym (ap (λ (c : CanvasValue). c.pen) holds.canvas);

@@ -117,6 +117,6 @@ abbrev pub screen : Machine → List ℕ → GridValue
 screen machine bytes = screen_of (fed machine bytes)
 
 -- nothing is unfinished, and the grid that is seen is this one
-pub record Shows (machine : Machine) (grid : GridValue) : Type 0 where
+pub record RestsOn (machine : Machine) (grid : GridValue) : Type 0 where
   pub whole : machine.unfinished ≡ []
   pub seen : screen_of machine ≡ grid

@@ -125,6 +125,18 @@ opening = 24 ∷ csi ++ codes "?1049h" ++ csi ++ codes "?25l" ++ csi ++ codes "0
 abbrev pub closing : List ℕ
 closing = 24 ∷ csi ++ codes "0m" ++ csi ++ codes "?25h" ++ csi ++ codes "?1049l"
 
--- The update from the cells that are shown to the next ones. A whole one begins anew and counts all cells as differing.
+-- what stands before the marks: an opening, where the update is whole
+abbrev pub beginning : Bool → List ℕ
+beginning whole = if whole then opening else []
+
+-- what stands behind the marks
+abbrev pub ending : List ℕ
+ending = []
+
+-- the marks of an update, which are those of the cells that differ. In a whole one all cells count as differing.
+abbrev pub update_marks : GridValue → GridValue → Bool → List Mark
+update_marks shown next whole = rows_marks whole 0 shown.rows next.rows
+
+-- The update from the cells that are shown to the next ones: its beginning, its marks and its end.
 unfoldable pub update : GridValue → GridValue → Bool → List ℕ
-update shown next whole = (if whole then opening else []) ++ written None (rows_marks whole 0 shown.rows next.rows)
+update shown next whole = beginning whole ++ (written None (update_marks shown next whole) ++ ending)

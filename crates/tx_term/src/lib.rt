@@ -1,7 +1,7 @@
 //! The bytes that a terminal is sent.
 //!
-//! [`present`] sends the update that leads a screen from one grid to the next, and [`CLOSING`] is
-//! what gives the terminal back. [`Terminal`] is a terminal of a stated kind, which reads such
+//! [`present`] sends the update that leads a screen from one grid to the next, and
+//! [`closing_bytes`] is what gives the terminal back. [`Terminal`] is a terminal of a stated kind, which reads such
 //! bytes and shows cells. The sequences are those of ECMA-48 with the private modes 25 and 1049,
 //! and with colours as `38;2;r;g;b` and `48;2;r;g;b`.
 #![tactic(auto)]
@@ -13,4 +13,4 @@ mod tests;
 mod update;
 
 pub use machine::Terminal;
-pub use update::{CLOSING, present};
+pub use update::{CLOSING, closing_bytes, present};

@@ -77,6 +77,20 @@ impl Terminal {
         self.canvas.shown()
     }
 
+    /// Whether the cursor is shown: private mode 25.
+    pub fn cursor_shown(&self) -> bool
+        ensures shown { result ≡ self.now.cursor_shown }
+    {
+        self.cursor_shown
+    }
+
+    /// Whether the screen is the alternate one: private mode 1049.
+    pub fn alternate(&self) -> bool
+        ensures alternate { result ≡ self.now.alternate }
+    {
+        self.alternate
+    }
+
     /// One byte.
     #[tactic(auto, unfolding(crate::specs::Machine::step))]
     fn step(&mut self, byte: u8)

@@ -1,8 +1,8 @@
 //! The update, gathered and sent.
-ghost use Rattle.std.specs.Prelude.{◌≡◌, ◌≤◌, ◌<◌, ◌+◌, ◌^◌, [], true, false, if◌then◌else◌};
+ghost use Rattle.std.specs.Prelude.{◌≡◌, ◌≤◌, ◌<◌, ◌+◌, ◌^◌, true, false};
 ghost use Rattle.tx_io.specs.Sending.{Sends};
 ghost use Rattle.tx_term.specs.Gather.{Adds, handed};
-ghost use Rattle.tx_term.specs.Update.{update, opening};
+ghost use Rattle.tx_term.specs.Update.{beginning, closing, update};
 
 mod cells;
 mod gather;
@@ -15,8 +15,16 @@ use tx_cell::Grid;
 use tx_io::{Sent, Sink};
 use writer::Writer;
 
-/// CAN, the default pen, the cursor and the main screen: what is sent at the end.
+/// The bytes of [`closing_bytes`].
 pub const CLOSING: &[u8; 19] = b"\x18\x1b[0m\x1b[?25h\x1b[?1049l";
+
+/// CAN, the default pen, the cursor and the main screen: what is sent at the end, to give the
+/// terminal back. These are 19 bytes.
+pub fn closing_bytes() -> &'static [u8; 19]
+    ensures bytes { result.now ≡ closing }
+{
+    CLOSING
+}
 
 /// Sends the update that leads the terminal from the cells of `shown` to those of `next`.
 ///
@@ -54,7 +62,7 @@ fn send_update<K: Sink>(shown: &Grid, next: &Grid, whole: bool, sink: &mut K) ->
 
 fn push_opening<K: Sink>(gather: &mut Gather, sink: &mut K, whole: bool)
     requires counted { handed gather.old + 64 < 2 ^ 64 }
-    ensures added { Adds (K.seen sink.old) (K.seen sink.new) gather.old gather.new (if whole then opening else []) }
+    ensures added { Adds (K.seen sink.old) (K.seen sink.new) gather.old gather.new (beginning whole) }
     ensures bounded { handed gather.new ≤ handed gather.old + 64 }
 {
     if whole {
