@@ -1,6 +1,6 @@
+pub mod CauseLemmas
+pub mod CourseLemmas
 pub mod FormLemmas
-pub mod OpeningLemmas
+pub mod PlanLemmas
 pub mod ReportLemmas
-pub mod RunLemmas
 pub mod SceneLemmas
-pub mod ShowingLemmas

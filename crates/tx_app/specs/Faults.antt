@@ -1,13 +1,14 @@
 -- What stands behind the statuses: risen counts, and when there is no cause but want of memory.
-use Rattle.std.specs.Prelude.{◌≡◌, ◌≤◌, ◌⊎◌, ℕ, List, length, Option, Some, None, Ok}
+use Rattle.std.specs.Prelude.{◌≡◌, ◌≤◌, ℕ, List, length, Option, Some, None}
 use Rattle.tx_io.specs.Faults.{raised, Rose}
 use Rattle.tx_parse.specs.Grammar.{Found}
 use Rattle.tx_parse.specs.Texts.{IsSheetText}
-use Rattle.tx_app.specs.Words.{Show, Shows, Checks, asked}
-use Rattle.tx_app.specs.Scene.{Scene}
-use Rattle.tx_app.specs.Run.{Opens, show_opening, file_limit}
-use Rattle.tx_app.specs.declared.outcome.Cause.{Cause}
-use Rattle.tx_app.specs.declared.outcome.Cause.TheVariants.{ReadFault, SinkFault, NoMemory}
+use Rattle.tx_app.specs.Words.{Checks, asked}
+use Rattle.tx_app.specs.Loads.{file_limit}
+use Rattle.tx_app.specs.Plan.{Plan, Misuse, Refuse, Read, Open, Print}
+use Rattle.tx_app.specs.Plans.{plan_of_words}
+use Rattle.tx_app.specs.declared.causes.Cause.{Cause}
+use Rattle.tx_app.specs.declared.causes.Cause.TheVariants.{ReadFault, SinkFault, NoMemory}
 
 -- how many loads failed, where that is the cause
 abbrev pub read_faults : Option Cause → Option ℕ
@@ -30,18 +31,22 @@ IsNoneOrMemory None = Unit {0}
 IsNoneOrMemory (Some NoMemory) = Unit {0}
 IsNoneOrMemory _ = ⊥
 
--- the words ask for a scene, and the files hold it, within the limit
-pub record HoldsScene (words : List (List ℕ)) (told : List ℕ → Option (List ℕ)) : Type 0 where
-  pub show : Show
-  pub tree : List ℕ
-  pub sheet : List ℕ
-  pub scene : Scene
-  pub asks : asked words ≡ Some (Shows show)
-  pub tree_told : told show.tree ≡ Some tree
-  pub tree_short : length tree ≤ file_limit
-  pub sheet_told : told show.sheet ≡ Some sheet
-  pub sheet_short : length sheet ≤ file_limit
-  pub opens : show_opening show (record { first = Ok tree; second = Some (Ok sheet) }) ≡ Opens scene
+-- there is a file, within a limit, whose bytes are so
+abbrev pub IsHeld : Option (List ℕ) → ℕ → (List ℕ → Type 0) → Type 0
+IsHeld None limit rest = ⊥
+IsHeld (Some bytes) limit rest = (length bytes ≤ limit) × rest bytes
+
+-- the files hold all that the plan asks for, and nothing there is at fault
+abbrev pub Accepts : (List ℕ → Option (List ℕ)) → Plan → Type 0
+Accepts told Misuse = ⊥
+Accepts told (Refuse file line column kind) = ⊥
+Accepts told (Read name limit next) = IsHeld (told name) limit (λ bytes. Accepts told (next bytes))
+Accepts told (Open scene) = Unit {0}
+Accepts told (Print lines) = Unit {0}
+
+abbrev pub IsComplete : List (List ℕ) → (List ℕ → Option (List ℕ)) → ℕ → ℕ → ℕ → ℕ → Option Cause → Type 0
+IsComplete words told files_before files_after out_before out_after cause =
+    Accepts told (plan_of_words words) → (Rose files_before files_after → ⊥) → (Rose out_before out_after → ⊥) → IsNoneOrMemory cause
 
 -- the words ask for the counts of a sheet, and the file holds one, within the limit
 pub record HoldsSheet (words : List (List ℕ)) (told : List ℕ → Option (List ℕ)) : Type 0 where
@@ -53,6 +58,6 @@ pub record HoldsSheet (words : List (List ℕ)) (told : List ℕ → Option (Lis
   pub sheet_short : length sheet ≤ file_limit
   pub grammar : IsSheetText sheet found
 
-abbrev pub IsComplete : List (List ℕ) → (List ℕ → Option (List ℕ)) → ℕ → ℕ → ℕ → ℕ → Option Cause → Type 0
-IsComplete words told files_before files_after out_before out_after cause =
-    (HoldsScene words told ⊎ HoldsSheet words told) → (Rose files_before files_after → ⊥) → (Rose out_before out_after → ⊥) → IsNoneOrMemory cause
+-- such files hold all that the plan asks for
+abbrev pub SheetsAreAccepted : Type 0
+SheetsAreAccepted = (words : List (List ℕ)) (told : List ℕ → Option (List ℕ)) → HoldsSheet words told → Accepts told (plan_of_words words)

@@ -1,6 +1,6 @@
 -- What is told of a file that wasn't read.
 use Rattle.std.specs.Prelude.{ℕ, Option, Some, None}
-use Rattle.tx_app.specs.declared.outcome.Refusal.TheVariants.{Unbuilt}
+use Rattle.tx_app.specs.declared.causes.Refusal.TheVariants.{Unbuilt}
 use Rattle.tx_app.specs.TreeForm.{Fault}
 use Rattle.tx_app.specs.declared.tree_form.FormFault.{FormFault}
 use Rattle.tx_app.specs.declared.tree_form.FormFault.TheVariants.{At, NoMemory}

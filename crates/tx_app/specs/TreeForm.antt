@@ -5,8 +5,8 @@ use Rattle.tx_tree.specs.declared.kind.Kind.{Kind}
 use Rattle.tx_tree.specs.declared.kind.Kind.TheVariants.{Static}
 use Rattle.tx_tree.specs.declared.row.Row.{Row}
 use Rattle.tx_tree_file.specs.TreeReading.{LineFault, tree_of}
-use Rattle.tx_app.specs.declared.outcome.Refusal.{Refusal}
-use Rattle.tx_app.specs.declared.outcome.Refusal.TheVariants.{Tree, Unbuilt}
+use Rattle.tx_app.specs.declared.causes.Refusal.{Refusal}
+use Rattle.tx_app.specs.declared.causes.Refusal.TheVariants.{Tree, Unbuilt}
 
 -- a character of a text: printable ASCII but for the quote and the backslash
 abbrev pub is_text_byte : ℕ → Bool

@@ -3,6 +3,8 @@ use Rattle.std.specs.Prelude.{ℕ, ◌≤◌, Bool, true, not, ◌&&◌, nat_le,
 use Rattle.std.specs.Str.{bytes_eq}
 use Rattle.tx_geom.specs.declared.places.Size.{Size}
 use Rattle.tx_read.specs.Number.{number_at_most}
+use Rattle.tx_app.specs.declared.words.Task.{Task as TaskRead}
+use Rattle.tx_app.specs.declared.words.Task.TheVariants as task
 
 -- one picture of a tree under a sheet, each named by its file, on a screen of this size
 pub record Show : Type 0 where
@@ -59,3 +61,15 @@ checks _ = None
 abbrev pub asked : List (List ℕ) → Option Task
 asked (_ ∷ mode ∷ words) = if bytes_eq mode (codes "show") then shows words else if bytes_eq mode (codes "check") then checks words else None
 asked _ = None
+
+-- ---- what their reader answers
+
+-- the task that it is
+abbrev pub task_of : TaskRead → Task
+task_of (task.Show show) = Shows (record { tree = show.tree.now; sheet = show.sheet.now; size = show.size })
+task_of (task.Check sheet) = Checks sheet.now
+
+-- its screen is within the limits
+abbrev pub IsPossible : TaskRead → Type 0
+IsPossible (task.Show show) = IsScreen show.size
+IsPossible (task.Check sheet) = Unit {0}

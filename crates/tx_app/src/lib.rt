@@ -1,8 +1,13 @@
 //! What the program does: from words, files and sinks to an outcome.
 #![tactic(auto)]
 
-mod open;
+mod causes;
+mod journal;
+pub mod laws;
+mod loads;
+mod openings;
 mod outcome;
+mod plans;
 mod report;
 mod run;
 mod scene;
@@ -12,5 +17,7 @@ mod tests;
 mod tree_form;
 mod words;
 
-pub use outcome::{Cause, Entry, Journal, Outcome, Refreshed, Refusal};
+pub use causes::{Cause, Refusal};
+pub use journal::{Entry, Journal, Refreshed};
+pub use outcome::Outcome;
 pub use run::top_alone;

@@ -1,9 +1,9 @@
 //! The error line.
 ghost use Rattle.std.specs.Prelude.{◌≡◌, false, decimal};
 ghost use Rattle.tx_app.specs.Report.{Says, IsReported};
-ghost use Rattle.tx_app.specs.Run.{error_bytes, error_line, kind_bytes, tree_kind_bytes, sheet_kind_bytes, refused_line};
+ghost use Rattle.tx_app.specs.ErrorLine.{error_bytes, error_line, kind_bytes, tree_kind_bytes, sheet_kind_bytes, refused_line};
 
-use crate::outcome::{Cause, Refusal};
+use crate::causes::{Cause, Refusal};
 use itoa::Buffer;
 use tx_io::{Sink, send_all};
 use tx_parse::SheetKind;

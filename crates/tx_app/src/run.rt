@@ -1,14 +1,21 @@
 //! The run.
-ghost use Rattle.std.specs.Prelude.{◌≡◌, [], map, IfSome, string_bytes};
+ghost use Rattle.std.specs.Prelude.{◌≡◌, [], ◌∷◌, map, IfSome, string_bytes};
 ghost use Rattle.tx_io.specs.Sending.{Sends, failed_puts};
-ghost use Rattle.tx_app.specs.Run.{IsRun, status_of, entry_of, sink_cause, Made};
-ghost use Rattle.tx_app.specs.Scene.{at_first};
-ghost use Rattle.tx_app.specs.Showing.{Refreshes, IsPrinting, Runs, Shows, entry_cause};
+ghost use Rattle.tx_app.specs.Causes.{sink_cause};
+ghost use Rattle.tx_app.specs.Course.{Updates};
 ghost use Rattle.tx_app.specs.Faults.{CausedBy, IsComplete, read_faults, sink_faults};
+ghost use Rattle.tx_app.specs.Journal.{act_entries};
+ghost use Rattle.tx_app.specs.Openings.{Opens, Prints, opened_of};
+ghost use Rattle.tx_app.specs.Refreshing.{Refreshes, entry_cause};
+ghost use Rattle.tx_app.specs.Run.{IsRun, Runs, Does};
+ghost use Rattle.tx_app.specs.Scene.{at_first};
 ghost use Rattle.tx_term.specs.Update.{closing};
 
-use crate::open::{Opened, open_words};
-use crate::outcome::{Cause, Entry, Journal, Outcome, Refreshed};
+use crate::causes::{Cause, sink_cause, status_of};
+use crate::journal::{Entry, Journal, Refreshed};
+use crate::openings::Opened;
+use crate::outcome::Outcome;
+use crate::plans::open_words;
 use crate::report::report;
 use crate::scene::Scene;
 use std::alloc::Global;
@@ -17,7 +24,7 @@ use tx_io::{Files, Sent, Sink, send_all};
 use tx_term::{CLOSING, present};
 
 fn entry_of(sent: Sent) -> Entry
-    ensures { result ≡ entry_of (Made sent) }
+    ensures { result ∷ [] ≡ act_entries (Updates [] sent) }
 {
     if sent.failed {
         Entry::Refresh {
@@ -82,7 +89,7 @@ fn show<K: Sink>(
     out: &mut K,
     journal: &mut Vec<Entry>,
 ) -> Option<Cause>
-    ensures { Shows (K.seen out.old) (K.seen out.new) scene.now journal.old.items journal.new.items result }
+    ensures { Does (Opens scene.now) (K.seen out.old) (K.seen out.new) journal.old.items journal.new.items result }
 {
     if journal.try_reserve(1).is_err() {
         return Some(Cause::NoMemory);
@@ -99,23 +106,29 @@ fn show<K: Sink>(
     }
 }
 
-/// The cause of a run that so many puts of the last bytes failed in.
-fn sink_cause(rose: u64) -> Option<Cause>
-    ensures { result ≡ sink_cause rose }
+/// Sends lines.
+fn print<K: Sink>(out: &mut K, lines: &[u8]) -> Option<Cause>
+    ensures { Does (Prints lines.now) (K.seen out.old) (K.seen out.new) [] [] result }
 {
-    if rose == 0 {
-        None
-    } else {
-        Some(Cause::SinkFault { rose })
-    }
+    let sent = send_all(out, lines);
+    sink_cause(failures(sent))
 }
 
-/// Sends a line.
-fn print<K: Sink>(out: &mut K, line: &[u8]) -> Option<Cause>
-    ensures { IsPrinting (K.seen out.old) (K.seen out.new) line.now result }
+/// Shows or prints what was opened.
+fn perform<K: Sink>(
+    alloc: Global,
+    opened: Result<Opened, Cause>,
+    out: &mut K,
+    journal: &mut Vec<Entry>,
+) -> Option<Cause>
+    requires { journal.old.items ≡ [] }
+    ensures { Does (opened_of opened) (K.seen out.old) (K.seen out.new) [] journal.new.items result }
 {
-    let sent = send_all(out, line);
-    sink_cause(failures(sent))
+    match opened {
+        Ok(Opened::Picture(scene)) => show(alloc, &scene, out, journal),
+        Ok(Opened::Lines(lines)) => print(out, &lines),
+        Err(cause) => Some(cause),
+    }
 }
 
 fn run<F: Files, K: Sink>(
@@ -129,24 +142,8 @@ fn run<F: Files, K: Sink>(
     ensures { Runs (map string_bytes words.now)
         (F.seen files.old) (F.seen files.new) (K.seen out.old) (K.seen out.new) journal.new.items result }
 {
-    match open_words(alloc, files, words) {
-        Ok(Opened::Picture(scene)) => show(alloc, &scene, out, journal),
-        Ok(Opened::Line(line)) => print(out, &line),
-        Err(cause) => Some(cause),
-    }
-}
-
-fn status_of(cause: &Option<Cause>) -> u8
-    ensures { result ≡ status_of cause.now }
-{
-    match cause {
-        None => 0,
-        Some(Cause::Usage) => 1,
-        Some(Cause::Refused { .. }) => 2,
-        Some(Cause::ReadFault { .. }) => 3,
-        Some(Cause::SinkFault { .. }) => 5,
-        Some(Cause::NoMemory) => 6,
-    }
+    let opened = open_words(alloc, files, words);
+    perform(alloc, opened, out, journal)
 }
 
 /// Does what the words ask for, the program's name before them.

@@ -8,7 +8,7 @@ ghost use Rattle.tx_tree_file.specs.TreeReading.{tree_of};
 ghost use Rattle.tx_app.specs.Reading.{told, unbuilt_at};
 ghost use Rattle.tx_app.specs.TreeForm.{rows_or_fault, texts_of, unbuilt, below_screen, statics, static_text, is_bare, is_static, is_text_byte, is_empty};
 
-use crate::outcome::Refusal;
+use crate::causes::Refusal;
 use std::alloc::{AllocError, AllocFailed, Global};
 use tx_text::Text;
 use tx_tree::{Kind, Row, TreeFault};

@@ -1,7 +1,6 @@
 //! The words of the command line.
 ghost use Rattle.std.specs.Prelude.{◌≡◌, ◌≤◌, map, option_map, string_bytes, IfSome};
-ghost use Rattle.tx_app.specs.Words.{IsScreen, asked, shows, checks, is_file, side, size_of};
-ghost use Rattle.tx_app.specs.Asking.{task_of, IsPossible};
+ghost use Rattle.tx_app.specs.Words.{IsScreen, asked, shows, checks, is_file, side, size_of, task_of, IsPossible};
 
 use tx_geom::Size;
 use tx_read::number_at_most;

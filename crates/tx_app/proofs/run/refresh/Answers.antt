@@ -2,7 +2,7 @@ use Rattle.std.proofs.Common.{ap, ◌∙◌, sym, arith, refl, ◌≡◌}
 use Rattle.tx_geom.specs.declared.places.Size.{Size}
 use Rattle.tx_cell.specs.Grid.{GridValue}
 use Rattle.tx_app.proofs.SceneLemmas.{size-picture, size-at_first}
-use Rattle.tx_app.proofs.ShowingLemmas.{Refreshes-made, Refreshes-unmade}
+use Rattle.tx_app.proofs.CourseLemmas.{Refreshes-made, Refreshes-unmade}
 use Rattle.tx_app.proofs.run.refresh.Goals as goal
 
 pub present-requires-clause-same_size : goal.present-requires-clause-same_size

@@ -1,4 +1,4 @@
-use Rattle.tx_app.proofs.RunLemmas.{Runs-read_fault, Runs-sink_fault, Runs-complete}
+use Rattle.tx_app.proofs.CauseLemmas.{Runs-read_fault, Runs-sink_fault, Runs-complete}
 use Rattle.tx_app.proofs.run.top_alone.Goals as goal
 
 pub returns-clause-read_fault : goal.returns-clause-read_fault

@@ -1,0 +1,265 @@
+-- What the causes of a run say.
+use Rattle.std.proofs.Common.{◌≡◌, ◌≤◌, ◌+◌, ℕ, zero, suc, Bool, true, false, cond, List, [], ◌∷◌, length, Option, None, Some, refl, ap, sym, ◌∙◌, arith, subst, zero-add, IfSome, Result, Ok, Err}
+use Rattle.std.proofs.Math.Dec.{eqb-suc-zero}
+use Rattle.std.specs.List.{AllByRecursion}
+use Rattle.tx_io.specs.declared.files.LoadFault.TheVariants.{Failed, TooLong as PastLimit, NoMemory as NoRoom}
+use Rattle.tx_io.specs.declared.send.Sent.{Sent}
+use Rattle.tx_io.specs.Faults.{raised, Rose}
+use Rattle.tx_io.specs.Loading.{FilesSeen, Load, failed_loads, after_loads}
+use Rattle.tx_io.specs.Sending.{failed_puts}
+use Rattle.tx_io.specs.Sink.{SinkSeen}
+use Rattle.tx_io.specs.Store.{Answer, LoadGives}
+use Rattle.tx_parse.specs.Grammar.{Found}
+use Rattle.tx_parse.specs.Texts.{Report, sheet_of}
+use Rattle.tx_parse.proofs.lemmas.TextLaws.{text_sheet}
+use Rattle.tx_app.specs.Words.{Checks, asked}
+use Rattle.tx_app.specs.Openings.{Opening, Stops, Opens, Prints, MayWant, ComesTo}
+use Rattle.tx_app.specs.Loads.{file_limit}
+use Rattle.tx_app.specs.Plan.{Plan, Misuse, Refuse, Read, Open, Print, opening_of, loads_of, AreOfFiles}
+use Rattle.tx_app.specs.Plans.{plan_of, plan_of_words, check_plan, counted}
+use Rattle.tx_app.specs.Course.{Act, Unmade, Updates, Closes, Says, IsRefresh, IsShown, IsPrinted, IsCourse, faults_of}
+use Rattle.tx_app.specs.Causes.{End, Wanting, Failures, end_of, end_cause, sink_cause, cause_of}
+use Rattle.tx_app.specs.Faults.{CausedBy, IsHeld, Accepts, HoldsSheet, IsComplete, IsNoneOrMemory, SheetsAreAccepted, read_faults, sink_faults}
+use Rattle.tx_app.specs.Run.{Runs}
+use Rattle.tx_app.specs.declared.causes.Cause.{Cause}
+use Rattle.tx_app.specs.declared.causes.Cause.TheVariants.{Usage, Refused, ReadFault, SinkFault, NoMemory}
+use Rattle.tx_app.specs.declared.journal.Entry.{Entry}
+
+-- ---- loads that failed
+
+-- how many, by what the reading comes to
+abbrev read_failures : Opening → ℕ
+read_failures (Stops Usage) = 0
+read_failures (Stops (Refused file line column kind)) = 0
+read_failures (Stops (ReadFault rose)) = rose
+read_failures (Stops (SinkFault rose)) = 0
+read_failures (Stops NoMemory) = 0
+read_failures (Opens scene) = 0
+read_failures (Prints lines) = 0
+
+loads-failures : (plan : Plan) (answers : List Answer) → failed_loads (loads_of plan answers) ≡ read_failures (opening_of plan answers)
+loads-failures Misuse answers = refl
+loads-failures (Refuse file line column kind) answers = refl
+loads-failures (Read name limit next) [] = refl
+loads-failures (Read name limit next) (Ok bytes ∷ answers) = zero-add (failed_loads (loads_of (next bytes) answers)) ∙ loads-failures (next bytes) answers
+loads-failures (Read name limit next) (Err Failed ∷ answers) = refl
+loads-failures (Read name limit next) (Err PastLimit ∷ answers) = refl
+loads-failures (Read name limit next) (Err NoRoom ∷ answers) = refl
+loads-failures (Open scene) answers = refl
+loads-failures (Print lines) answers = refl
+
+-- the count of the files rose by these
+faults-of_loads : (plan : Plan) (answers : List Answer) (before after : FilesSeen) → after ≡ after_loads before (loads_of plan answers)
+    → after.faults ≡ raised before.faults (read_failures (opening_of plan answers))
+faults-of_loads plan answers before after is = ap (λ (seen : FilesSeen). seen.faults) is ∙ ap (raised before.faults) (loads-failures plan answers)
+
+-- the reading stops for a failure only where one load failed
+abbrev OfReading : Opening → Type 0
+OfReading (Stops Usage) = Unit {0}
+OfReading (Stops (Refused file line column kind)) = Unit {0}
+OfReading (Stops (ReadFault rose)) = rose ≡ 1
+OfReading (Stops (SinkFault rose)) = ⊥
+OfReading (Stops NoMemory) = Unit {0}
+OfReading (Opens scene) = Unit {0}
+OfReading (Prints lines) = Unit {0}
+
+opening-of_reading : (plan : Plan) (answers : List Answer) → OfReading (opening_of plan answers)
+opening-of_reading Misuse answers = tt
+opening-of_reading (Refuse file line column kind) answers = tt
+opening-of_reading (Read name limit next) [] = tt
+opening-of_reading (Read name limit next) (Ok bytes ∷ answers) = opening-of_reading (next bytes) answers
+opening-of_reading (Read name limit next) (Err Failed ∷ answers) = refl
+opening-of_reading (Read name limit next) (Err PastLimit ∷ answers) = tt
+opening-of_reading (Read name limit next) (Err NoRoom ∷ answers) = tt
+opening-of_reading (Open scene) answers = tt
+opening-of_reading (Print lines) answers = tt
+
+-- ---- a count that rose
+
+sink_cause-some : (n : ℕ) → sink_cause (suc n) ≡ Some (SinkFault (suc n))
+sink_cause-some n = rw (eqb-suc-zero n) refl
+
+sink_cause-no_read : (n before after : ℕ) → CausedBy (read_faults (sink_cause n)) before after
+sink_cause-no_read zero before after = tt
+sink_cause-no_read (suc n) before after = rw (sink_cause-some n) tt
+
+rises : (n before after : ℕ) → after ≡ raised before (suc n) → Rose before after
+rises n before after is = omega (arith, is)
+
+sink_cause-caused : (n before after : ℕ) → after ≡ raised before n → CausedBy (sink_faults (sink_cause n)) before after
+sink_cause-caused zero before after is = tt
+sink_cause-caused (suc n) before after is = rw (sink_cause-some n) (omega arith, is, rises n before after is)
+
+sink_cause-free : (n before after : ℕ) → after ≡ raised before n → (Rose before after → ⊥) → IsNoneOrMemory (sink_cause n)
+sink_cause-free zero before after is none = tt
+sink_cause-free (suc n) before after is none = absurd (none (rises n before after is))
+
+-- the count of the sink rose by what the end says
+abbrev EndsAt : End → ℕ → ℕ → Type 0
+EndsAt Wanting before after = Unit {0}
+EndsAt (Failures n) before after = after ≡ raised before n
+
+shown-ends : (refresh : Act) (closed : Sent) (bytes : List ℕ) (before after : ℕ) → IsRefresh bytes refresh
+    → after ≡ raised before (faults_of (refresh ∷ Closes closed ∷ [])) → EndsAt (end_of (Failures 0) (refresh ∷ Closes closed ∷ [])) before after
+shown-ends Unmade closed bytes before after is faults = tt
+shown-ends (Updates update sent) closed bytes before after is faults = faults ∙ ap (raised before) (omega arith)
+shown-ends (Closes sent) closed bytes before after is faults = absurd is
+shown-ends (Says lines sent) closed bytes before after is faults = absurd is
+
+-- what was opened, and is no stop
+abbrev IsOpen : Opening → Type 0
+IsOpen (Stops cause) = ⊥
+IsOpen (Opens scene) = Unit {0}
+IsOpen (Prints lines) = Unit {0}
+
+course-ends : (opening : Opening) (acts : List Act) (before after : ℕ) → IsOpen opening → IsCourse opening acts → after ≡ raised before (faults_of acts)
+    → EndsAt (end_of (Failures 0) acts) before after
+course-ends (Stops cause) acts before after opened course faults = absurd opened
+course-ends (Opens scene) acts before after opened course faults =
+    subst (λ (all : List Act). EndsAt (end_of (Failures 0) all) before after) (sym course.is)
+    (shown-ends course.refresh course.closed _ before after course.refreshes (faults ∙ ap (λ (all : List Act). raised before (faults_of all)) course.is))
+course-ends (Prints lines) acts before after opened course faults =
+    subst (λ (all : List Act). EndsAt (end_of (Failures 0) all) before after) (sym course.is)
+    (faults ∙ ap (λ (all : List Act). raised before (faults_of all)) course.is ∙ ap (raised before) (omega arith))
+
+-- ---- a load that failed is the cause
+
+end-no_read : (end : End) (before after : ℕ) → CausedBy (read_faults (end_cause end)) before after
+end-no_read Wanting before after = tt
+end-no_read (Failures n) before after = sink_cause-no_read n before after
+
+opening-read : (opening : Opening) (acts : List Act) (before after : ℕ) → OfReading opening → after ≡ raised before (read_failures opening)
+    → CausedBy (read_faults (cause_of opening acts)) before after
+opening-read (Stops Usage) acts before after of is = tt
+opening-read (Stops (Refused file line column kind)) acts before after of is = tt
+opening-read (Stops (ReadFault rose)) acts before after of is = (omega (arith, of), is, omega (arith, of, is))
+opening-read (Stops (SinkFault rose)) acts before after of is = absurd of
+opening-read (Stops NoMemory) acts before after of is = tt
+opening-read (Opens scene) acts before after of is = end-no_read (end_of (Failures 0) acts) before after
+opening-read (Prints lines) acts before after of is = end-no_read (end_of (Failures 0) acts) before after
+
+-- want of memory has no such cause, and else it is what was expected
+either : (P : Opening → Type 0) (expected actual : Opening) → ComesTo expected actual → P expected → P (Stops NoMemory) → P actual
+either P expected actual comes here wanting = of comes.wanting comes.is
+  where
+    of : (b : Bool) → actual ≡ cond b (Stops NoMemory) expected → P actual
+    of false is = subst P (sym is) here
+    of true is = subst P (sym is) wanting
+
+pub Runs-read_fault : (words : List (List ℕ)) (files_before files_after : FilesSeen) (before after : SinkSeen) (journal : List Entry) (cause : Option Cause)
+    → Runs words files_before files_after before after journal cause → CausedBy (read_faults cause) files_before.faults files_after.faults
+Runs-read_fault words files_before files_after before after journal cause r =
+    let plan : Plan = plan_of_words words in
+    rw r.cause_is (either (λ opening. CausedBy (read_faults (cause_of opening r.acts)) files_before.faults files_after.faults)
+    (opening_of plan r.answers) r.opening r.comes
+    (opening-read (opening_of plan r.answers) r.acts files_before.faults files_after.faults (opening-of_reading plan r.answers)
+    (faults-of_loads plan r.answers files_before files_after r.loads)) tt)
+
+-- ---- a put that failed is the cause
+
+end-sink : (end : End) (before after : ℕ) → EndsAt end before after → CausedBy (sink_faults (end_cause end)) before after
+end-sink Wanting before after at = tt
+end-sink (Failures n) before after at = sink_cause-caused n before after at
+
+opening-sink : (opening : Opening) (acts : List Act) (before after : ℕ) → OfReading opening → IsCourse opening acts → after ≡ raised before (faults_of acts)
+    → CausedBy (sink_faults (cause_of opening acts)) before after
+opening-sink (Stops Usage) acts before after of course is = tt
+opening-sink (Stops (Refused file line column kind)) acts before after of course is = tt
+opening-sink (Stops (ReadFault rose)) acts before after of course is = tt
+opening-sink (Stops (SinkFault rose)) acts before after of course is = absurd of
+opening-sink (Stops NoMemory) acts before after of course is = tt
+opening-sink (Opens scene) acts before after of course is = end-sink (end_of (Failures 0) acts) before after (course-ends (Opens scene) acts before after tt course is)
+opening-sink (Prints lines) acts before after of course is = end-sink (end_of (Failures 0) acts) before after (course-ends (Prints lines) acts before after tt course is)
+
+pub Runs-sink_fault : (words : List (List ℕ)) (files_before files_after : FilesSeen) (before after : SinkSeen) (journal : List Entry) (cause : Option Cause)
+    → Runs words files_before files_after before after journal cause → CausedBy (sink_faults cause) before.faults after.faults
+Runs-sink_fault words files_before files_after before after journal cause r =
+    let plan : Plan = plan_of_words words in
+    rw r.cause_is (opening-sink r.opening r.acts before.faults after.faults
+    (either OfReading (opening_of plan r.answers) r.opening r.comes (opening-of_reading plan r.answers) tt) r.course r.faults)
+
+-- ---- files that hold all that a plan asks for
+
+-- a reading of such files: no stop but for a failed load or want of memory
+abbrev Fine : Opening → Type 0
+Fine (Stops Usage) = ⊥
+Fine (Stops (Refused file line column kind)) = ⊥
+Fine (Stops (ReadFault rose)) = rose ≡ 1
+Fine (Stops (SinkFault rose)) = ⊥
+Fine (Stops NoMemory) = Unit {0}
+Fine (Opens scene) = Unit {0}
+Fine (Prints lines) = Unit {0}
+
+held-bytes : (content : Option (List ℕ)) (limit : ℕ) (P : List ℕ → Type 0) (bytes : List ℕ) → IsHeld content limit P → LoadGives content limit (Ok bytes) → P bytes
+held-bytes None limit P bytes held gives = absurd held
+held-bytes (Some all) limit P bytes held gives = subst P (sym gives.0) held.1
+
+held-short : (content : Option (List ℕ)) (limit : ℕ) (P : List ℕ → Type 0) → IsHeld content limit P → LoadGives content limit (Err PastLimit) → ⊥
+held-short None limit P held gives = held
+held-short (Some all) limit P held gives = omega (arith, held.0, gives)
+
+accepts-fine : (told : List ℕ → Option (List ℕ)) (plan : Plan) (answers : List Answer) → Accepts told plan → AreOfFiles (Some told) (loads_of plan answers)
+    → Fine (opening_of plan answers)
+accepts-fine told Misuse answers accepts of_files = accepts
+accepts-fine told (Refuse file line column kind) answers accepts of_files = accepts
+accepts-fine told (Read name limit next) [] accepts of_files = tt
+accepts-fine told (Read name limit next) (Ok bytes ∷ answers) accepts of_files =
+    accepts-fine told (next bytes) answers (held-bytes (told name) limit (λ all. Accepts told (next all)) bytes accepts of_files.0) of_files.1
+accepts-fine told (Read name limit next) (Err Failed ∷ answers) accepts of_files = refl
+accepts-fine told (Read name limit next) (Err PastLimit ∷ answers) accepts of_files =
+    absurd (held-short (told name) limit (λ all. Accepts told (next all)) accepts of_files.0)
+accepts-fine told (Read name limit next) (Err NoRoom ∷ answers) accepts of_files = tt
+accepts-fine told (Open scene) answers accepts of_files = tt
+accepts-fine told (Print lines) answers accepts of_files = tt
+
+end-free : (end : End) (before after : ℕ) → EndsAt end before after → (Rose before after → ⊥) → IsNoneOrMemory (end_cause end)
+end-free Wanting before after at none = tt
+end-free (Failures n) before after at none = sink_cause-free n before after at none
+
+opening-free : (opening : Opening) (acts : List Act) (files_before files_after before after : ℕ) → Fine opening → IsCourse opening acts
+    → files_after ≡ raised files_before (read_failures opening) → after ≡ raised before (faults_of acts)
+    → (Rose files_before files_after → ⊥) → (Rose before after → ⊥) → IsNoneOrMemory (cause_of opening acts)
+opening-free (Stops Usage) acts files_before files_after before after fine course loads faults no_read no_sink = absurd fine
+opening-free (Stops (Refused file line column kind)) acts files_before files_after before after fine course loads faults no_read no_sink = absurd fine
+opening-free (Stops (ReadFault rose)) acts files_before files_after before after fine course loads faults no_read no_sink = absurd (no_read (omega (arith, fine, loads)))
+opening-free (Stops (SinkFault rose)) acts files_before files_after before after fine course loads faults no_read no_sink = absurd fine
+opening-free (Stops NoMemory) acts files_before files_after before after fine course loads faults no_read no_sink = tt
+opening-free (Opens scene) acts files_before files_after before after fine course loads faults no_read no_sink =
+    end-free (end_of (Failures 0) acts) before after (course-ends (Opens scene) acts before after tt course faults) no_sink
+opening-free (Prints lines) acts files_before files_after before after fine course loads faults no_read no_sink =
+    end-free (end_of (Failures 0) acts) before after (course-ends (Prints lines) acts before after tt course faults) no_sink
+
+-- where it comes to want of memory nothing is owed, and else it is what was expected
+comes-free : (expected actual : Opening) (acts : List Act) (files_before files_after before after : ℕ) → Fine expected → ComesTo expected actual → IsCourse actual acts
+    → files_after ≡ raised files_before (read_failures expected) → after ≡ raised before (faults_of acts)
+    → (Rose files_before files_after → ⊥) → (Rose before after → ⊥) → IsNoneOrMemory (cause_of actual acts)
+comes-free expected actual acts files_before files_after before after fine comes course loads faults no_read no_sink = of comes.wanting comes.is
+  where
+    of : (b : Bool) → actual ≡ cond b (Stops NoMemory) expected → IsNoneOrMemory (cause_of actual acts)
+    of true is = rw is tt
+    of false is = rw is (opening-free expected acts files_before files_after before after fine (subst (λ opening. IsCourse opening acts) is course) loads faults no_read no_sink)
+
+complete-of : (contents : Option (List ℕ → Option (List ℕ))) (words : List (List ℕ)) (answers : List Answer) (actual : Opening) (acts : List Act)
+    (files_before files_after before after : ℕ) (cause : Option Cause)
+    → AreOfFiles contents (loads_of (plan_of_words words) answers) → ComesTo (opening_of (plan_of_words words) answers) actual → IsCourse actual acts
+    → files_after ≡ raised files_before (read_failures (opening_of (plan_of_words words) answers)) → after ≡ raised before (faults_of acts)
+    → cause ≡ cause_of actual acts → IfSome contents (λ told. IsComplete words told files_before files_after before after cause)
+complete-of None words answers actual acts files_before files_after before after cause of_files comes course loads faults is = tt
+complete-of (Some told) words answers actual acts files_before files_after before after cause of_files comes course loads faults is = λ accepts no_read no_sink.
+    rw is (comes-free (opening_of (plan_of_words words) answers) actual acts files_before files_after before after
+    (accepts-fine told (plan_of_words words) answers accepts of_files) comes course loads faults no_read no_sink)
+
+pub Runs-complete : (words : List (List ℕ)) (files_before files_after : FilesSeen) (before after : SinkSeen) (journal : List Entry) (cause : Option Cause)
+    → Runs words files_before files_after before after journal cause
+    → IfSome files_before.contents (λ told. IsComplete words told files_before.faults files_after.faults before.faults after.faults cause)
+Runs-complete words files_before files_after before after journal cause r =
+    complete-of files_before.contents words r.answers r.opening r.acts files_before.faults files_after.faults before.faults after.faults cause
+    r.of_files r.comes r.course (faults-of_loads (plan_of_words words) r.answers files_before files_after r.loads) r.faults r.cause_is
+
+-- ---- a sheet in the grammar
+
+pub sheets_are_accepted : SheetsAreAccepted
+sheets_are_accepted words told h =
+    subst (λ task. Accepts told (plan_of task)) (sym h.asks)
+    (subst (λ content. IsHeld content file_limit (λ bytes. Accepts told (counted h.name bytes (sheet_of bytes)))) (sym h.sheet_told)
+    (h.sheet_short, subst (λ read. Accepts told (counted h.name h.sheet read)) (sym (text_sheet h.sheet h.found h.grammar)) tt))

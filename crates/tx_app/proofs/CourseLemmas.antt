@@ -1,0 +1,182 @@
+-- What is done for an opening, from its parts.
+use Rattle.std.proofs.Common.{◌≡◌, ◌≤◌, ◌+◌, ◌-◌, ◌^◌, min, ℕ, Bool, true, false, cond, List, [], ◌∷◌, ◌++◌, take, Option, None, Some, refl, ap, sym, ◌∙◌, append_assoc, append-nil, arith, subst, zero-add}
+use Rattle.std.specs.Io.KnownBytes.{append_known}
+use Rattle.tx_cell.specs.Grid.{GridValue}
+use Rattle.tx_io.specs.declared.send.Sent.{Sent}
+use Rattle.tx_io.specs.Faults.{raised}
+use Rattle.tx_io.specs.Loading.{FilesSeen}
+use Rattle.tx_io.specs.Sending.{Sends, failed_puts}
+use Rattle.tx_io.specs.Sink.{SinkSeen}
+use Rattle.tx_term.specs.Update.{update, closing}
+use Rattle.tx_app.specs.Scene.{Scene, picture, at_first}
+use Rattle.tx_app.specs.Openings.{Opening, Stops, Opens, Prints, MayWant, ComesTo}
+use Rattle.tx_app.specs.Plan.{Begun, opening_of}
+use Rattle.tx_app.specs.Plans.{plan_of_words}
+use Rattle.tx_app.specs.Course.{Act, Unmade, Updates, Closes, Says, IsRefresh, act_bytes, act_faults, bytes_of, faults_of}
+use Rattle.tx_app.specs.Journal.{act_entries, entries_of}
+use Rattle.tx_app.specs.Causes.{Failures, end_after, end_cause, end_of, cause_of, sink_cause}
+use Rattle.tx_app.specs.Refreshing.{Refreshes, entry_cause}
+use Rattle.tx_app.specs.Run.{Does, Runs}
+use Rattle.tx_app.specs.declared.causes.Cause.{Cause}
+use Rattle.tx_app.specs.declared.causes.Cause.TheVariants.{NoMemory}
+use Rattle.tx_app.specs.declared.journal.Entry.{Entry}
+use Rattle.tx_app.specs.declared.journal.Entry.TheVariants.{Refresh}
+use Rattle.tx_app.specs.declared.journal.Refreshed.TheVariants.{Accepted, SinkFault as SinkFailed}
+
+-- ---- one refresh
+
+append_known-nothing : (known : Option (List ℕ)) → known ≡ append_known known []
+append_known-nothing None = refl
+append_known-nothing (Some xs) = ap Some (sym (append-nil xs))
+
+append_known-append : (known : Option (List ℕ)) (a b : List ℕ) → append_known (append_known known a) b ≡ append_known known (a ++ b)
+append_known-append None a b = refl
+append_known-append (Some xs) a b = ap Some (append_assoc xs a b)
+
+raised-none : (n : ℕ) → n ≡ raised n 0
+raised-none n = omega arith
+
+raised-twice : (n a b : ℕ) → raised (raised n a) b ≡ raised n (a + b)
+raised-twice n a b = omega arith
+
+-- the picture couldn't be made
+pub Refreshes-unmade : (before : SinkSeen) (scene : Scene) (entry : Entry) → entry ∷ [] ≡ act_entries Unmade → Refreshes before before scene entry
+Refreshes-unmade before scene entry is = record {
+  act = Unmade;
+  is = tt;
+  told = append_known-nothing before.told;
+  faults = raised-none before.faults;
+  entry_is = is;
+}
+
+-- its update was sent
+pub Refreshes-made : (before after : SinkSeen) (scene : Scene) (shown next : GridValue) (sent : Sent) (entry : Entry)
+    → shown ≡ at_first scene.size → next ≡ picture scene → Sends before after (update shown next true) sent → entry ∷ [] ≡ act_entries (Updates [] sent)
+    → Refreshes before after scene entry
+Refreshes-made before after scene shown next sent entry fresh made sends is =
+    let first : List ℕ = update (at_first scene.size) (picture scene) true in
+    let bytes : update shown next true ≡ first = ap (λ s. update s next true) fresh ∙ ap (λ n. update (at_first scene.size) n true) made in
+    let whole : Sends before after first sent = subst (λ b. Sends before after b sent) bytes sends in
+    record { act = Updates first sent; is = (refl, record { all = whole.all; part = whole.part }); told = whole.content; faults = whole.faults; entry_is = is }
+
+-- ---- the show
+
+-- memory was wanting before the refresh
+pub Does-wanting : (before : SinkSeen) (scene : Scene) (journal : List Entry) → Does (Opens scene) before before journal journal (Some NoMemory)
+Does-wanting before scene journal = record {
+  actual = Stops NoMemory;
+  acts = [];
+  comes = record { wanting = true; is = refl; may = tt };
+  course = refl;
+  told = append_known-nothing before.told;
+  faults = raised-none before.faults;
+  journal = sym (append-nil journal);
+  cause_is = refl;
+}
+
+-- a refresh, and then the closing bytes
+pub Does-refresh : (before mid after : SinkSeen) (scene : Scene) (journal : List Entry) (entry : Entry) (closed : Sent) (cause : Option Cause)
+    → (r : Refreshes before mid scene entry) → Sends mid after closing closed
+    → cause ≡ end_cause (end_of (Failures 0) (r.act ∷ Closes closed ∷ []))
+    → Does (Opens scene) before after journal (journal ++ entry ∷ []) cause
+Does-refresh before mid after scene journal entry closed cause r sends is =
+    let front : List ℕ = act_bytes r.act in
+    let back : List ℕ = take closed.taken closing in
+    record {
+      actual = Opens scene;
+      acts = r.act ∷ Closes closed ∷ [];
+      comes = record { wanting = false; is = refl; may = tt };
+      course = record { refresh = r.act; closed = closed; is = refl; refreshes = r.is; closes = record { all = sends.all; part = sends.part } };
+      told = sends.content ∙ ap (λ t. append_known t back) r.told
+          ∙ append_known-append before.told front back
+          ∙ ap (λ b. append_known before.told (front ++ b)) (sym (append-nil back));
+      faults = sends.faults ∙ ap (λ n. raised n (failed_puts closed)) r.faults ∙ raised-twice before.faults (act_faults r.act) (failed_puts closed)
+          ∙ ap (raised before.faults) (omega arith);
+      journal = ap (λ e. journal ++ e) (r.entry_is ∙ sym (append-nil (act_entries r.act)));
+      cause_is = is;
+    }
+
+-- lines are sent
+pub Does-print : (before after : SinkSeen) (lines : List ℕ) (sent : Sent) (cause : Option Cause)
+    → Sends before after lines sent → cause ≡ sink_cause (failed_puts sent) → Does (Prints lines) before after [] [] cause
+Does-print before after lines sent cause sends is = record {
+  actual = Prints lines;
+  acts = Says lines sent ∷ [];
+  comes = record { wanting = false; is = refl; may = tt };
+  course = record { sent = sent; is = refl; says = record { all = sends.all; part = sends.part } };
+  told = sends.content ∙ ap (append_known before.told) (sym (append-nil (take sent.taken lines)));
+  faults = sends.faults ∙ ap (raised before.faults) (omega arith);
+  journal = refl;
+  cause_is = is ∙ ap sink_cause (sym (zero-add (failed_puts sent)));
+}
+
+-- what stopped the run
+pub Does-nothing : (before : SinkSeen) (cause : Cause) → Does (Stops cause) before before [] [] (Some cause)
+Does-nothing before cause = record {
+  actual = Stops cause;
+  acts = [];
+  comes = record { wanting = false; is = refl; may = tt };
+  course = refl;
+  told = append_known-nothing before.told;
+  faults = raised-none before.faults;
+  journal = refl;
+  cause_is = refl;
+}
+
+-- ---- the whole
+
+ComesTo-then : (first second third : Opening) → ComesTo first second → ComesTo second third → ComesTo first third
+ComesTo-then first second third a b = of a.wanting b.wanting a.is a.may b.is b.may
+  where
+    of : (x y : Bool) → second ≡ cond x (Stops NoMemory) first → MayWant x first → third ≡ cond y (Stops NoMemory) second → MayWant y second → ComesTo first third
+    of false false is may next may_next = record { wanting = false; is = next ∙ is; may = tt }
+    of false true is may next may_next = record { wanting = true; is = next; may = subst (MayWant true) is may_next }
+    of true false is may next may_next = record { wanting = true; is = next ∙ is; may = may }
+    of true true is may next may_next = record { wanting = true; is = next; may = may }
+
+pub Runs-done : (words : List (List ℕ)) (files_before files_after : FilesSeen) (before after : SinkSeen) (opening : Opening) (journal : List Entry) (cause : Option Cause)
+    → Begun files_before files_after (plan_of_words words) opening → Does opening before after [] journal cause
+    → Runs words files_before files_after before after journal cause
+Runs-done words files_before files_after before after opening journal cause b d = record {
+  answers = b.answers;
+  opening = d.actual;
+  acts = d.acts;
+  begins = b.begins;
+  of_files = b.of_files;
+  loads = b.loads;
+  comes = ComesTo-then (opening_of (plan_of_words words) b.answers) opening d.actual b.comes d.comes;
+  course = d.course;
+  told = d.told;
+  faults = d.faults;
+  journal_is = d.journal;
+  cause_is = d.cause_is;
+}
+
+-- ---- the cause
+
+one_at_most : (b : Bool) → cond b 1 0 ≤ 1
+one_at_most true = omega arith
+one_at_most false = omega arith
+
+uncapped : (a b : Bool) → min (cond a 1 0 + cond b 1 0) (2 ^ 64 - 1) ≡ cond a 1 0 + cond b 1 0
+uncapped a b = omega (arith, one_at_most a, one_at_most b)
+
+made_cause : (failed : Bool) (taken : ℕ) (closed : Sent)
+    → entry_cause (Refresh (cond failed SinkFailed Accepted) taken (cond failed 1 0)) closed ≡ sink_cause (cond failed 1 0 + failed_puts closed)
+made_cause true taken closed = ap sink_cause (uncapped true closed.failed)
+made_cause false taken closed = ap sink_cause (uncapped false closed.failed)
+
+head-same : {x y : Entry} → x ∷ [] ≡ y ∷ [] → x ≡ y
+head-same {x} same = ap (λ (all : List Entry). first_of_list x all) same
+  where
+    first_of_list : Entry → List Entry → Entry
+    first_of_list other [] = other
+    first_of_list other (entry ∷ entries) = entry
+
+-- the entry says the cause
+pub entry_cause-of : (act : Act) (bytes : List ℕ) (entry : Entry) (closed : Sent) → IsRefresh bytes act → entry ∷ [] ≡ act_entries act
+    → entry_cause entry closed ≡ end_cause (end_of (Failures 0) (act ∷ Closes closed ∷ []))
+entry_cause-of Unmade bytes entry closed is same = ap (λ e. entry_cause e closed) (head-same same)
+entry_cause-of (Updates update sent) bytes entry closed is same = ap (λ e. entry_cause e closed) (head-same same) ∙ made_cause sent.failed sent.taken closed
+entry_cause-of (Closes sent) bytes entry closed is same = absurd is
+entry_cause-of (Says lines sent) bytes entry closed is same = absurd is

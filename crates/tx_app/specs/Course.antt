@@ -1,0 +1,70 @@
+-- What a run does to `out`, act by act, and which bytes and failures come of that.
+use Rattle.std.specs.Prelude.{◌≡◌, ◌<◌, ℕ, ◌+◌, true, false, List, [], ◌∷◌, length, take, flat_map}
+use Rattle.tx_io.specs.declared.send.Sent.{Sent}
+use Rattle.tx_io.specs.Sending.{failed_puts}
+use Rattle.tx_term.specs.Update.{update, closing}
+use Rattle.tx_app.specs.Scene.{Scene, picture, at_first}
+use Rattle.tx_app.specs.Openings.{Opening, Stops, Opens, Prints}
+
+pub data Act : Type 0 where
+  -- a refresh for which memory was wanting, before its first byte
+  Unmade : Act
+  -- a refresh: the bytes of its update, and what the sink took of them
+  Updates : List ℕ → Sent → Act
+  -- the closing bytes, and what the sink took of them
+  Closes : Sent → Act
+  -- printed lines, and what the sink took of them
+  Says : List ℕ → Sent → Act
+
+-- the bytes on `out`: of each piece as many as the sink took
+abbrev pub act_bytes : Act → List ℕ
+act_bytes Unmade = []
+act_bytes (Updates update sent) = take sent.taken update
+act_bytes (Closes sent) = take sent.taken closing
+act_bytes (Says lines sent) = take sent.taken lines
+
+abbrev pub bytes_of : List Act → List ℕ
+bytes_of acts = flat_map act_bytes acts
+
+-- how many puts failed
+abbrev pub act_faults : Act → ℕ
+act_faults Unmade = 0
+act_faults (Updates update sent) = failed_puts sent
+act_faults (Closes sent) = failed_puts sent
+act_faults (Says lines sent) = failed_puts sent
+
+abbrev pub faults_of : List Act → ℕ
+faults_of [] = 0
+faults_of (act ∷ acts) = act_faults act + faults_of acts
+
+-- these bytes can have been sent so: all of them where no put failed, and fewer where one did
+pub record CanBeSent (bytes : List ℕ) (sent : Sent) : Type 0 where
+  pub all : sent.failed ≡ false → sent.taken ≡ length bytes
+  pub part : sent.failed ≡ true → sent.taken < length bytes
+
+-- a refresh whose update has these bytes
+abbrev pub IsRefresh : List ℕ → Act → Type 0
+IsRefresh bytes Unmade = Unit {0}
+IsRefresh bytes (Updates update sent) = (update ≡ bytes) × CanBeSent bytes sent
+IsRefresh bytes (Closes sent) = ⊥
+IsRefresh bytes (Says lines sent) = ⊥
+
+-- one refresh of a scene on a fresh screen, and then the closing bytes
+pub record IsShown (scene : Scene) (acts : List Act) : Type 0 where
+  pub refresh : Act
+  pub closed : Sent
+  pub is : acts ≡ refresh ∷ Closes closed ∷ []
+  pub refreshes : IsRefresh (update (at_first scene.size) (picture scene) true) refresh
+  pub closes : CanBeSent closing closed
+
+-- lines that are printed
+pub record IsPrinted (lines : List ℕ) (acts : List Act) : Type 0 where
+  pub sent : Sent
+  pub is : acts ≡ Says lines sent ∷ []
+  pub says : CanBeSent lines sent
+
+-- what is done; nothing is sent where the reading stops the run
+abbrev pub IsCourse : Opening → List Act → Type 0
+IsCourse (Stops cause) acts = acts ≡ []
+IsCourse (Opens scene) acts = IsShown scene acts
+IsCourse (Prints lines) acts = IsPrinted lines acts

@@ -1,0 +1,36 @@
+-- What the reading of the files comes to.
+use Rattle.std.specs.Prelude.{◌≡◌, ℕ, Bool, true, false, List, Result, Ok, Err, if◌then◌else◌}
+use Rattle.tx_app.specs.Scene.{Scene}
+use Rattle.tx_app.specs.declared.openings.Opened.{Opened}
+use Rattle.tx_app.specs.declared.openings.Opened.TheVariants.{Picture, Lines}
+use Rattle.tx_app.specs.declared.causes.Cause.{Cause}
+use Rattle.tx_app.specs.declared.causes.Cause.TheVariants.{Usage, Refused, ReadFault, SinkFault, NoMemory}
+
+-- a cause that stops the run, a scene that is shown, or lines that are printed
+pub data Opening : Type 0 where
+  Stops : Cause → Opening
+  Opens : Scene → Opening
+  Prints : List ℕ → Opening
+
+-- Memory may be wanting, but not where the words are refused or a load failed: no memory is taken for these.
+abbrev pub MayWant : Bool → Opening → Type 0
+MayWant false expected = Unit {0}
+MayWant true (Stops Usage) = ⊥
+MayWant true (Stops (Refused file line column kind)) = Unit {0}
+MayWant true (Stops (ReadFault rose)) = ⊥
+MayWant true (Stops (SinkFault rose)) = ⊥
+MayWant true (Stops NoMemory) = Unit {0}
+MayWant true (Opens scene) = Unit {0}
+MayWant true (Prints lines) = Unit {0}
+
+-- what is expected, or that memory was wanting for it
+pub record ComesTo (expected actual : Opening) : Type 0 where
+  pub wanting : Bool
+  pub is : actual ≡ (if wanting then Stops NoMemory else expected)
+  pub may : MayWant wanting expected
+
+-- what the reader of the files answers
+abbrev pub opened_of : Result Opened Cause → Opening
+opened_of (Ok (Picture scene)) = Opens scene
+opened_of (Ok (Lines lines)) = Prints lines.items
+opened_of (Err cause) = Stops cause

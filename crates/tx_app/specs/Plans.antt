@@ -1,0 +1,70 @@
+-- The plan of each task.
+use Rattle.std.specs.Prelude.{ℕ, ◌+◌, List, ◌++◌, length, Option, Some, None, Result, Ok, Err, codes, decimal}
+use Rattle.tx_parse.specs.Grammar.{Found}
+use Rattle.tx_parse.specs.Places.{line_of, column_of}
+use Rattle.tx_parse.specs.Texts.{Report, sheet_of}
+use Rattle.tx_geom.specs.declared.places.Size.{Size}
+use Rattle.tx_app.specs.Words.{Task, Shows, Checks, asked}
+use Rattle.tx_app.specs.TreeForm.{Fault, texts_of, unbuilt}
+use Rattle.tx_app.specs.SheetForm.{looks_of}
+use Rattle.tx_app.specs.Scene.{first_misfit, scene_of}
+use Rattle.tx_app.specs.Loads.{file_limit}
+use Rattle.tx_app.specs.Plan.{Plan, Misuse, Refuse, Read, Open, Print}
+use Rattle.tx_app.specs.declared.causes.Refusal.TheVariants.{Sheet, Unbuilt}
+use Rattle.tx_app.specs.declared.sheet_form.Looks.{Looks}
+
+-- what stands in a file, or its first line that is at fault
+abbrev pub in_form : {A : Type 0} → List ℕ → Result A Fault → (A → Plan) → Plan
+in_form name (Ok value) next = next value
+in_form name (Err fault) next = Refuse name fault.0 1 fault.1
+
+-- ---- a picture: the tree, and then the sheet
+
+-- the scene, where all Statics fit; the i-th stands in line i + 1
+abbrev pub fitted : Size → List ℕ → List (List ℕ) → Looks → Option ℕ → Plan
+fitted size tree texts looks (Some i) = Refuse tree (i + 1) 1 Unbuilt
+fitted size tree texts looks None = Open (scene_of size texts looks)
+
+abbrev pub looks_plan : Size → List ℕ → List ℕ → List (List ℕ) → Result Looks Fault → Plan
+looks_plan size tree sheet texts looks = in_form sheet looks (λ looks. fitted size tree texts looks (first_misfit size looks.statics.height 1 texts))
+
+abbrev pub sheet_plan : Size → List ℕ → List ℕ → List (List ℕ) → Plan
+sheet_plan size tree sheet texts = Read sheet file_limit (λ bytes. looks_plan size tree sheet texts (unbuilt (looks_of bytes)))
+
+abbrev pub texts_plan : Size → List ℕ → List ℕ → Result (List (List ℕ)) Fault → Plan
+texts_plan size tree sheet texts = in_form tree texts (sheet_plan size tree sheet)
+
+abbrev pub show_plan : Size → List ℕ → List ℕ → Plan
+show_plan size tree sheet = Read tree file_limit (λ bytes. texts_plan size tree sheet (texts_of bytes))
+
+-- ---- the counts of a sheet
+
+-- how many rules, declarations and variables there are, in one line
+abbrev pub counts_of : ℕ → ℕ → ℕ → List ℕ
+counts_of rules declarations variables =
+    codes "rules " ++ decimal rules ++ codes ", declarations " ++ decimal declarations ++ codes ", variables " ++ decimal variables ++ codes "\n"
+
+abbrev pub counts_line : Found → List ℕ
+counts_line found = counts_of (length found.rules) found.written found.variables
+
+-- the counts, or the first fault
+abbrev pub counted : List ℕ → List ℕ → Result Found Report → Plan
+counted name bytes (Ok found) = Print (counts_line found)
+counted name bytes (Err report) = Refuse name (line_of bytes report.1) (column_of bytes report.1) (Sheet report.0)
+
+abbrev pub check_plan : List ℕ → Plan
+check_plan name = Read name file_limit (λ bytes. counted name bytes (sheet_of bytes))
+
+-- ---- all tasks
+
+abbrev pub task_plan : Task → Plan
+task_plan (Shows show) = show_plan show.size show.tree show.sheet
+task_plan (Checks sheet) = check_plan sheet
+
+abbrev pub plan_of : Option Task → Plan
+plan_of None = Misuse
+plan_of (Some task) = task_plan task
+
+-- the words, then the files
+abbrev pub plan_of_words : List (List ℕ) → Plan
+plan_of_words words = plan_of (asked words)
