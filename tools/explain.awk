@@ -98,10 +98,11 @@ function explain_sheet(    name) {
     if (name in case_of) {
         say_case(name)
         if (name == "a rule begins inside a rule") printf "the rule above begins in line %d\n", opened
+        if (name == "a `;` is missing") printf "the declaration before it begins in line %d\n", declared
         return
     }
     if (kind == "BadValue") { explain_value(); return }
-    if (!say_sign(kind == "BadByte" ? "" : (kind == "UndefinedVariable" ? "" : "") token)) say_instead(instead[kind])
+    if (!say_sign(token)) say_instead(instead[kind])
     if (kind == "UnknownProperty") say_properties()
     if (kind == "UnknownPseudo") printf "the pseudo-classes: %s\n", pseudos
     if (kind == "UndefinedVariable") printf "the variables of the theme: %s\n", variables
@@ -131,7 +132,7 @@ function step(c, row_number, before) {
     else if (c == ":" && part == "property") { part = "values"; filled = 0 }
     else if (c == ":" && part == "definition") { filled = 0; coloned = 1 }
     else if (part == "outside") { part = c == "$" ? "definition" : "selector"; coloned = 0; filled = 0; begun = row_number }
-    else if (part == "rule") { part = "property"; property = c }
+    else if (part == "rule") { part = "property"; property = c; declared = row_number }
     else if (part == "property") property = (before ~ /[A-Za-z0-9_-]/ ? property : "") c
     else filled = 1
 }
