@@ -1,5 +1,5 @@
 //! Tokens from the left.
-ghost use Rattle.std.specs.Prelude.{◌≡◌, ◌<◌, ◌≤◌, ◌^◌, ◌+◌, length, drop, IfOk, IfSome, Some, None, option_map, if◌then◌else◌};
+ghost use Rattle.std.specs.Prelude.{◌≡◌, ◌<◌, ◌≤◌, ◌^◌, ◌+◌, length, drop, IfOk, IfSome, Some, None, true, is_some, option_map, if◌then◌else◌};
 ghost use Rattle.tx_lex.specs.Lexing.{close_len, close_behind, opens_comment, comment_len, hash_len, variable_len, of_kind, number_or_point, longest_token, wrong_in, wrong_here, if_comment, invalid_place, spot_at, token_at, lexed};
 ghost use Rattle.tx_lex.specs.Bytes.{is_mark};
 ghost use Rattle.tx_lex.specs.declared.token.TokenKind.TheVariants.{Mark};
@@ -219,6 +219,8 @@ pub fn scan(alloc: Global, bytes: &[u8]) -> Result<Scanned, AllocError>
     ensures read { IfOk result (λ scanned. scanned ≡ lexed bytes.now) }
     // Each token has a byte.
     ensures few { IfOk result (λ scanned. length scanned.tokens ≤ length bytes.now) }
+    // A byte at fault belongs to none of them.
+    ensures fewer { IfOk result (λ scanned. is_some scanned.fault ≡ true → length scanned.tokens < length bytes.now) }
 {
     let mut tokens = Vec::new(alloc);
     let mut place = 0;

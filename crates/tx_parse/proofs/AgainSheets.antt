@@ -13,7 +13,7 @@ use Rattle.tx_select.specs.Laws.{StandsBefore}
 use Rattle.tx_select.specs.Lexemes.{begins_part, begins_compound, goes_on}
 use Rattle.tx_select.specs.SelectorReading.{kind_at, parts_at, compound_at, compounds_at, compound_of, link_at, then_compounds, selector_at, Read as SelectorRead, expected as not_expected}
 use Rattle.tx_select.specs.declared.value.Compound.{Compound}
-use Rattle.tx_select.specs.declared.value.Selector.{Selector}
+use Rattle.tx_select.specs.SelectorValue.{SelectorValue}
 use Rattle.tx_select.proofs.lemmas.SelectorLaws.{selectors-read}
 use Rattle.tx_parse.specs.Grammar.{IsValues, AreSelectors, IsRule, IsVariable, Found, nothing_found, with_variable, with_rule, IsPart, IsSheet}
 use Rattle.tx_lex.specs.Blanks.{past_blanks}
@@ -93,11 +93,11 @@ stops_selector t ts (inr is) = ap goes_on is
 -- ---- selectors
 
 -- a selector with spaces and comments round it, and then something else
-record WholeRead (head rest : List Lexeme) (s : Selector) : Type 0 where
+record WholeRead (head rest : List Lexeme) (s : SelectorValue) : Type 0 where
   reads : spaced_selector_at (head ++ rest) ≡ Ok (s, rest)
   begins : first_is begins_compound (past_blanks (head ++ rest)) ≡ true
 
-whole_read : (head rest : List Lexeme) (s : Selector) → IsWhole head s.compounds → first_is goes_on rest ≡ false → WholeRead head rest s
+whole_read : (head rest : List Lexeme) (s : SelectorValue) → IsWhole head s.compounds → first_is goes_on rest ≡ false → WholeRead head rest s
 unfolding spaced_selector_at
 whole_read head rest s is stops =
     let here : List Lexeme = is.middle ++ (is.behind ++ rest) in
@@ -119,10 +119,10 @@ brace_again : (t : Lexeme) (ts : List Lexeme) → t.kind ≡ Mark 123 → goes_o
 unfolding goes_on_at
 brace_again t ts is = ap (λ k. cond (is_mark 44 k) (Ok (true, ts)) (cond (is_mark 123 k) (Ok (false, ts)) (expected (t ∷ ts)))) is
 
-abbrev behind_one : ℕ → List Selector → Selector → Reads (List Selector)
+abbrev behind_one : ℕ → List SelectorValue → SelectorValue → Reads (List SelectorValue)
 behind_one most found selector = in_turn goes_on_at (then_selectors (selectors_from most) (found ++ (selector ∷ [])))
 
-selectors_again : (most : ℕ) (found selectors : List Selector) (head rest : List Lexeme) (opening : Lexeme) → AreSelectors head selectors → opening.kind ≡ Mark 123 → length selectors ≤ most
+selectors_again : (most : ℕ) (found selectors : List SelectorValue) (head rest : List Lexeme) (opening : Lexeme) → AreSelectors head selectors → opening.kind ≡ Mark 123 → length selectors ≤ most
     → selectors_from most found (head ++ (opening ∷ rest)) ≡ Ok (found ++ selectors, rest)
 unfolding selectors_from
 selectors_again most found [] head rest opening are is few = absurd are
@@ -140,7 +140,7 @@ selectors_again (suc most) found (s ∷ next ∷ selectors) head rest opening ar
     ∙ selectors_again most (found ++ (s ∷ [])) (next ∷ selectors) are.1 rest opening are.6 is (omega (arith, few))
     ∙ ap (λ all. Ok (all, rest)) (append_assoc found (s ∷ []) (next ∷ selectors))
 
-selectors_begin : (selectors : List Selector) (head rest : List Lexeme) (opening : Lexeme) → AreSelectors head selectors → opening.kind ≡ Mark 123 → first_is begins_compound (past_blanks (head ++ (opening ∷ rest))) ≡ true
+selectors_begin : (selectors : List SelectorValue) (head rest : List Lexeme) (opening : Lexeme) → AreSelectors head selectors → opening.kind ≡ Mark 123 → first_is begins_compound (past_blanks (head ++ (opening ∷ rest))) ≡ true
 selectors_begin [] head rest opening are is = absurd are
 selectors_begin (s ∷ []) head rest opening are is = (whole_read head (opening ∷ rest) s are (stops_selector opening rest (inr is))).begins
 selectors_begin (s ∷ next ∷ selectors) head rest opening are is =

@@ -12,7 +12,7 @@ use Rattle.tx_select.specs.Lexemes.{begins_compound}
 use Rattle.tx_select.specs.SelectorReading.{selector_at}
 use Rattle.tx_select.specs.declared.fault.SelectKind.{SelectKind}
 use Rattle.tx_select.specs.declared.value.Compound.{Compound}
-use Rattle.tx_select.specs.declared.value.Selector.{Selector}
+use Rattle.tx_select.specs.SelectorValue.{SelectorValue}
 use Rattle.tx_select.proofs.lemmas.SelectorLaws.{selectors-read}
 use Rattle.tx_parse.specs.Grammar.{Body, nothing, IsValues, IsBody, AreSelectors, IsRule, IsVariable, Found, nothing_found, with_variable, with_rule, IsPart, IsSheet}
 use Rattle.tx_lex.specs.Blanks.{past_blanks}
@@ -29,13 +29,13 @@ use Rattle.tx_parse.proofs.LocalSheets.{behind_variable, behind_rules}
 
 -- ---- selectors
 
-selector_found : (ts rest : List Lexeme) (s : Selector) (read : Result (List Compound × List Lexeme) (SelectKind × List Lexeme)) → selector_at ts ≡ read → as_selector read ≡ Ok (s, rest) → StandsBefore ts s.compounds rest
+selector_found : (ts rest : List Lexeme) (s : SelectorValue) (read : Result (List Compound × List Lexeme) (SelectKind × List Lexeme)) → selector_at ts ≡ read → as_selector read ≡ Ok (s, rest) → StandsBefore ts s.compounds rest
 selector_found ts rest s (Ok found) was is =
     let same : (record { compounds = found.0 } ≡ s) × (found.1 ≡ rest) = given (record { compounds = found.0 }) s found.1 rest is in
-    (selectors-read ts s.compounds rest).0 (was ∙ ap (λ c. Ok (c, found.1)) (ap (λ (x : Selector). x.compounds) same.0) ∙ ap (λ r. Ok (s.compounds, r)) same.1)
+    (selectors-read ts s.compounds rest).0 (was ∙ ap (λ c. Ok (c, found.1)) (ap (λ (x : SelectorValue). x.compounds) same.0) ∙ ap (λ r. Ok (s.compounds, r)) same.1)
 selector_found ts rest s (Err fault) was is = absurd (refused (wrong_of (kind_of fault.0), fault.1) s rest is)
 
-spaced_found : (ts rest : List Lexeme) (s : Selector) → spaced_selector_at ts ≡ Ok (s, rest) → Takes (λ a. IsWhole a s.compounds) ts rest
+spaced_found : (ts rest : List Lexeme) (s : SelectorValue) → spaced_selector_at ts ≡ Ok (s, rest) → Takes (λ a. IsWhole a s.compounds) ts rest
 unfolding spaced_selector_at
 spaced_found ts rest s is =
     let blank : Takes AreBlank ts (past_blanks ts) = past_found ts in
@@ -63,21 +63,21 @@ goes_on_found (t ∷ ts) rest b is = of (is_mark 44 t.kind) refl (is_mark 123 t.
         subst (λ c. GoesOn (t ∷ ts) c rest) same.0 (t, ap (λ xs. t ∷ xs) same.1, mark-kind 123 t.kind braced)
     of false comma false braced is = absurd (refused (wrong_of Expected, t ∷ ts) b rest is)
 
-pub record SelectorsFound (most : ℕ) (found : List Selector) (ts : List Lexeme) (all : List Selector) (rest : List Lexeme) : Type 0 where
+pub record SelectorsFound (most : ℕ) (found : List SelectorValue) (ts : List Lexeme) (all : List SelectorValue) (rest : List Lexeme) : Type 0 where
   pub head : List Lexeme
   pub opening : Lexeme
-  pub more : List Selector
+  pub more : List SelectorValue
   pub parts : ts ≡ head ++ (opening ∷ rest)
   pub selectors : AreSelectors head more
   pub is_open : opening.kind ≡ Mark 123
   pub few : length more ≤ most
   pub together : all ≡ found ++ more
 
-selectors_behind : (most : ℕ) (found all : List Selector) (ts rest : List Lexeme) (mid behind : List Lexeme) (s : Selector) → Takes (λ a. IsWhole a s.compounds) ts mid → GoesOn mid true behind
+selectors_behind : (most : ℕ) (found all : List SelectorValue) (ts rest : List Lexeme) (mid behind : List Lexeme) (s : SelectorValue) → Takes (λ a. IsWhole a s.compounds) ts mid → GoesOn mid true behind
     → SelectorsFound most (found ++ (s ∷ [])) behind all rest → SelectorsFound (suc most) found ts all rest
 selectors_behind most found all ts rest mid behind s first comma more = of more.more more.selectors more.few more.together
   where
-    of : (others : List Selector) → AreSelectors more.head others → length others ≤ most → all ≡ (found ++ (s ∷ [])) ++ others → SelectorsFound (suc most) found ts all rest
+    of : (others : List SelectorValue) → AreSelectors more.head others → length others ≤ most → all ≡ (found ++ (s ∷ [])) ++ others → SelectorsFound (suc most) found ts all rest
     of [] are few together = absurd are
     of (next ∷ others) are few together = record {
       head = first.0 ++ (comma.0 ∷ more.head);
@@ -90,18 +90,18 @@ selectors_behind most found all ts rest mid behind s first comma more = of more.
       together = together ∙ append_assoc found (s ∷ []) (next ∷ others);
     }
 
-selectors_from_found : (most : ℕ) (found all : List Selector) (ts rest : List Lexeme) → selectors_from most found ts ≡ Ok (all, rest) → SelectorsFound most found ts all rest
+selectors_from_found : (most : ℕ) (found all : List SelectorValue) (ts rest : List Lexeme) → selectors_from most found ts ≡ Ok (all, rest) → SelectorsFound most found ts all rest
 unfolding selectors_from
 selectors_from_found zero found all ts rest is = absurd (refused (wrong_of Expected, past_blanks ts) all rest is)
 selectors_from_found (suc most) found all ts rest is =
-    let first : (s : Selector × List Lexeme) × (spaced_selector_at ts ≡ Ok s) × (in_turn goes_on_at (then_selectors (selectors_from most) (found ++ (s.0 ∷ []))) s.1 ≡ Ok (all, rest)) =
+    let first : (s : SelectorValue × List Lexeme) × (spaced_selector_at ts ≡ Ok s) × (in_turn goes_on_at (then_selectors (selectors_from most) (found ++ (s.0 ∷ []))) s.1 ≡ Ok (all, rest)) =
     parts_of (spaced_selector_at ts) (λ s. in_turn goes_on_at (then_selectors (selectors_from most) (found ++ (s.0 ∷ []))) s.1) all rest is in
     let second : (b : Bool × List Lexeme) × (goes_on_at first.0.1 ≡ Ok b) × (then_selectors (selectors_from most) (found ++ (first.0.0 ∷ [])) b.0 b.1 ≡ Ok (all, rest)) =
     parts_of (goes_on_at first.0.1) (λ b. then_selectors (selectors_from most) (found ++ (first.0.0 ∷ [])) b.0 b.1) all rest first.2 in
     of first.0.0 first.0.1 (spaced_found ts first.0.1 first.0.0 first.1) second.0.0 second.0.1 (goes_on_found first.0.1 second.0.1 second.0.0 second.1) second.2 (λ f next is. selectors_from_found most f all next rest is)
   where
-    of : (s : Selector) (mid : List Lexeme) → Takes (λ a. IsWhole a s.compounds) ts mid → (b : Bool) (behind : List Lexeme) → GoesOn mid b behind → then_selectors (selectors_from most) (found ++ (s ∷ [])) b behind ≡ Ok (all, rest)
-        → ((f : List Selector) (next : List Lexeme) → selectors_from most f next ≡ Ok (all, rest) → SelectorsFound most f next all rest) → SelectorsFound (suc most) found ts all rest
+    of : (s : SelectorValue) (mid : List Lexeme) → Takes (λ a. IsWhole a s.compounds) ts mid → (b : Bool) (behind : List Lexeme) → GoesOn mid b behind → then_selectors (selectors_from most) (found ++ (s ∷ [])) b behind ≡ Ok (all, rest)
+        → ((f : List SelectorValue) (next : List Lexeme) → selectors_from most f next ≡ Ok (all, rest) → SelectorsFound most f next all rest) → SelectorsFound (suc most) found ts all rest
     of s mid first true behind comma is more = selectors_behind most found all ts rest mid behind s first comma (more (found ++ (s ∷ [])) behind is)
     of s mid first false behind brace is more =
         let same : (found ++ (s ∷ []) ≡ all) × (behind ≡ rest) = given (found ++ (s ∷ [])) all behind rest is in
@@ -121,13 +121,13 @@ selectors_from_found (suc most) found all ts rest is =
 rule_found : (defined : Defined) (ts rest : List Lexeme) (rule : RuleValue × ℕ) → rule_at defined ts ≡ Ok (rule, rest) → Takes (λ a. IsRule defined a rule.0 rule.1) ts rest
 unfolding rule_at selectors_at
 rule_found defined ts rest rule is =
-    let first : (s : List Selector × List Lexeme) × (selectors_from 64 [] ts ≡ Ok s) × (in_turn (body_at false defined) (λ body. give (rule_of s.0 body)) s.1 ≡ Ok (rule, rest)) =
+    let first : (s : List SelectorValue × List Lexeme) × (selectors_from 64 [] ts ≡ Ok s) × (in_turn (body_at false defined) (λ body. give (rule_of s.0 body)) s.1 ≡ Ok (rule, rest)) =
     parts_of (selectors_from 64 [] ts) (λ s. in_turn (body_at false defined) (λ body. give (rule_of s.0 body)) s.1) rule rest is in
     let second : (b : Body × List Lexeme) × (body_at false defined first.0.1 ≡ Ok b) × (Ok (rule_of first.0.0 b.0, b.1) ≡ Ok (rule, rest)) =
     parts_of (body_at false defined first.0.1) (λ b. Ok (rule_of first.0.0 b.0, b.1)) rule rest first.2 in
     of first.0.0 first.0.1 (selectors_from_found 64 [] first.0.0 ts first.0.1 first.1) second.0.0 second.0.1 (body_found false defined first.0.1 second.0.1 second.0.0 second.1) second.2
   where
-    made : (selectors : List Selector) (mid : List Lexeme) (body : Body) (behind : List Lexeme) (head : SelectorsFound 64 [] ts selectors mid) → (block : BodyFound false defined nothing mid body behind) → behind ≡ rest
+    made : (selectors : List SelectorValue) (mid : List Lexeme) (body : Body) (behind : List Lexeme) (head : SelectorsFound 64 [] ts selectors mid) → (block : BodyFound false defined nothing mid body behind) → behind ≡ rest
         → Takes (λ a. IsRule defined a (rule_of selectors body).0 (rule_of selectors body).1) ts rest
     made selectors mid body behind head block same = (
       head.head ++ (head.opening ∷ (block.block ++ (block.ends.0 ∷ []))),
@@ -140,14 +140,14 @@ rule_found defined ts rest rule is =
         closing = block.ends.0;
         parts = refl;
         selectors = subst (AreSelectors head.head) (sym head.together) head.selectors;
-        few = subst (λ (l : List Selector). length l ≤ 64) (sym head.together) head.few;
+        few = subst (λ (l : List SelectorValue). length l ≤ 64) (sym head.together) head.few;
         is_open = head.is_open;
         body = body_itself false defined mid behind body block;
         is_close = block.ends.2;
       },
     )
 
-    of : (selectors : List Selector) (mid : List Lexeme) (head : SelectorsFound 64 [] ts selectors mid) (body : Body) (behind : List Lexeme) → (block : BodyFound false defined nothing mid body behind) → Gave {F = Wrong} (Ok (rule_of selectors body, behind)) rule rest
+    of : (selectors : List SelectorValue) (mid : List Lexeme) (head : SelectorsFound 64 [] ts selectors mid) (body : Body) (behind : List Lexeme) → (block : BodyFound false defined nothing mid body behind) → Gave {F = Wrong} (Ok (rule_of selectors body, behind)) rule rest
         → Takes (λ a. IsRule defined a rule.0 rule.1) ts rest
     of selectors mid head body behind block is =
         let same : (rule_of selectors body ≡ rule) × (behind ≡ rest) = given (rule_of selectors body) rule behind rest is in

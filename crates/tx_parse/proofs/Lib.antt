@@ -18,4 +18,5 @@ pub mod SheetSteps
 pub mod Turns
 pub mod ValueSteps
 pub mod WholeAnswers
+pub mod FewRules
 pub mod lemmas

@@ -8,7 +8,7 @@ use Rattle.tx_select.specs.Lexemes.{begins_compound}
 use Rattle.tx_select.specs.SelectorReading.{selector_at}
 use Rattle.tx_select.specs.declared.fault.SelectKind.{SelectKind}
 use Rattle.tx_select.specs.declared.value.Compound.{Compound}
-use Rattle.tx_select.specs.declared.value.Selector.{Selector}
+use Rattle.tx_select.specs.SelectorValue.{SelectorValue}
 use Rattle.tx_select.proofs.lemmas.SelectorLaws.{selectors-local}
 use Rattle.tx_parse.specs.Grammar.{Found, nothing_found, with_variable, with_rule}
 use Rattle.tx_lex.specs.Blanks.{past_blanks}
@@ -27,7 +27,7 @@ use Rattle.tx_parse.proofs.Scans.{plain_shorter, mapped, mapped-plain}
 selector-plain : Plain selector_at
 selector-plain = record { local = selectors-local.0; leaves = selectors-local.1 }
 
-abbrev selector_of : List Compound → Selector
+abbrev selector_of : List Compound → SelectorValue
 selector_of compounds = record { compounds = compounds }
 
 abbrev wrong_in : SelectKind → Wrong
@@ -57,14 +57,14 @@ goes_on-plain = same goes_on_at (by_first (Err (wrong_of Expected)) goes_on_step
     of [] = refl
     of (t ∷ ts) = chosen t ts (is_mark 44 t.kind) (is_mark 123 t.kind)
 
-then-plain : (more : List Selector → Reads (List Selector)) → ((found : List Selector) → Plain (more found)) → (found : List Selector) (b : Bool) → Plain (then_selectors more found b)
+then-plain : (more : List SelectorValue → Reads (List SelectorValue)) → ((found : List SelectorValue) → Plain (more found)) → (found : List SelectorValue) (b : Bool) → Plain (then_selectors more found b)
 then-plain more plain found true = plain found
 then-plain more plain found false = give-plain found
 
-abbrev behind_selector : ℕ → List Selector → Selector → Reads (List Selector)
+abbrev behind_selector : ℕ → List SelectorValue → SelectorValue → Reads (List SelectorValue)
 behind_selector n found selector = in_turn goes_on_at (then_selectors (selectors_from n) (found ++ (selector ∷ [])))
 
-selectors_from-plain : (n : ℕ) (found : List Selector) → Plain (selectors_from n found)
+selectors_from-plain : (n : ℕ) (found : List SelectorValue) → Plain (selectors_from n found)
 unfolding selectors_from
 selectors_from-plain zero found = spaced-plain expected expected-plain
 selectors_from-plain (suc n) found = turn spaced_selector_at (behind_selector n found) spaced_selector-plain
@@ -87,11 +87,11 @@ goes_on_shorter (t ∷ ts) rest b is = of (is_mark 44 t.kind) (is_mark 123 t.kin
     of false true is = shorter (given false b ts rest is).1
     of false false is = absurd (refused (wrong_of Expected, t ∷ ts) b rest is)
 
-selectors_from_shorter : (n : ℕ) (found all : List Selector) (ts rest : List Lexeme) → selectors_from n found ts ≡ Ok (all, rest) → length rest < length ts
+selectors_from_shorter : (n : ℕ) (found all : List SelectorValue) (ts rest : List Lexeme) → selectors_from n found ts ≡ Ok (all, rest) → length rest < length ts
 unfolding selectors_from
 selectors_from_shorter zero found all ts rest is = absurd (refused (wrong_of Expected, past_blanks ts) all rest is)
 selectors_from_shorter (suc n) found all ts rest is =
-    let first : (s : Selector × List Lexeme) × (spaced_selector_at ts ≡ Ok s) × (behind_selector n found s.0 s.1 ≡ Ok (all, rest)) = both (spaced_selector_at ts) (λ s. behind_selector n found s.0 s.1) all rest is in
+    let first : (s : SelectorValue × List Lexeme) × (spaced_selector_at ts ≡ Ok s) × (behind_selector n found s.0 s.1 ≡ Ok (all, rest)) = both (spaced_selector_at ts) (λ s. behind_selector n found s.0 s.1) all rest is in
     let second : (b : Bool × List Lexeme) × (goes_on_at first.0.1 ≡ Ok b) × (then_selectors (selectors_from n) (found ++ (first.0.0 ∷ [])) b.0 b.1 ≡ Ok (all, rest)) =
     both (goes_on_at first.0.1) (λ b. then_selectors (selectors_from n) (found ++ (first.0.0 ∷ [])) b.0 b.1) all rest first.2 in
     let one : length first.0.1 ≤ length ts = plain_shorter spaced_selector_at spaced_selector-plain ts first.0.1 first.0.0 first.1 in
@@ -101,10 +101,10 @@ selectors_from_shorter (suc n) found all ts rest is =
 
 -- ---- rules and variables
 
-abbrev behind_head : Defined → List Selector → Reads (RuleValue × ℕ)
+abbrev behind_head : Defined → List SelectorValue → Reads (RuleValue × ℕ)
 behind_head defined selectors = in_turn (body_at false defined) (λ body. give (rule_of selectors body))
 
-behind_head-plain : (defined : Defined) (selectors : List Selector) → Plain (behind_head defined selectors)
+behind_head-plain : (defined : Defined) (selectors : List SelectorValue) → Plain (behind_head defined selectors)
 behind_head-plain defined selectors = turn (body_at false defined) (λ body. give (rule_of selectors body)) (body-plain false defined) (λ body. give-plain (rule_of selectors body))
 
 rule-plain : (defined : Defined) → Plain (rule_at defined)
@@ -114,7 +114,7 @@ rule-plain defined = turn selectors_at (behind_head defined) selectors-plain (be
 rule_shorter : (defined : Defined) (ts rest : List Lexeme) (rule : RuleValue × ℕ) → rule_at defined ts ≡ Ok (rule, rest) → length rest < length ts
 unfolding rule_at selectors_at
 rule_shorter defined ts rest rule is =
-    let first : (s : List Selector × List Lexeme) × (selectors_from 64 [] ts ≡ Ok s) × (behind_head defined s.0 s.1 ≡ Ok (rule, rest)) = both (selectors_from 64 [] ts) (λ s. behind_head defined s.0 s.1) rule rest is in
+    let first : (s : List SelectorValue × List Lexeme) × (selectors_from 64 [] ts ≡ Ok s) × (behind_head defined s.0 s.1 ≡ Ok (rule, rest)) = both (selectors_from 64 [] ts) (λ s. behind_head defined s.0 s.1) rule rest is in
     let one : length first.0.1 < length ts = selectors_from_shorter 64 [] first.0.0 ts first.0.1 first.1 in
     let two : length rest ≤ length first.0.1 = plain_shorter (behind_head defined first.0.0) (behind_head-plain defined first.0.0) first.0.1 rest rule first.2 in
     omega (arith, one, two)

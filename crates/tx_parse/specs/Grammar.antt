@@ -7,7 +7,7 @@ use Rattle.tx_lex.specs.Lexemes.{Lexeme}
 use Rattle.tx_lex.specs.declared.token.TokenKind.TheVariants.{Name, Variable, Mark}
 use Rattle.tx_text.specs.Name.{IsName}
 use Rattle.tx_select.specs.Grammar.{AreBlank, IsWhole}
-use Rattle.tx_select.specs.declared.value.Selector.{Selector}
+use Rattle.tx_select.specs.SelectorValue.{SelectorValue}
 use Rattle.tx_value.specs.Declarations.{Pair, declaration}
 use Rattle.tx_parse.specs.Variables.{Defined, is_value, stand_for, with_definition}
 use Rattle.tx_parse.specs.Values.{DeclarationValue, RuleValue, important_pairs}
@@ -92,7 +92,7 @@ pub record IsBody (defined : Defined) (ts : List Lexeme) (body : Body) : Type 0 
 -- ---- rules
 
 -- one or more selectors, with a comma between two
-abbrev pub AreSelectors : List Lexeme → List Selector → Type 0
+abbrev pub AreSelectors : List Lexeme → List SelectorValue → Type 0
 AreSelectors ts [] = ⊥
 AreSelectors ts (selector ∷ []) = IsWhole ts selector.compounds
 AreSelectors ts (selector ∷ next ∷ selectors) =

@@ -1,7 +1,7 @@
 -- What holds of the reading of sheets and of inline texts.
-use Rattle.std.specs.Prelude.{◌≡◌, ℕ, List, [], ◌∷◌, ◌++◌, length, Ok, Err}
+use Rattle.std.specs.Prelude.{◌≡◌, ℕ, List, [], ◌∷◌, ◌++◌, Ok, Err}
 use Rattle.tx_lex.specs.Lexemes.{Lexeme}
-use Rattle.tx_parse.specs.Default.{default_rules}
+use Rattle.tx_parse.specs.DefaultRules.{default_rules}
 use Rattle.tx_parse.specs.declared.default.TheConstants.{DEFAULT_SHEET}
 use Rattle.tx_parse.specs.Grammar.{Body, Found, IsSheet, IsBody}
 use Rattle.tx_parse.specs.declared.fault.Wrong.{Wrong}
@@ -21,9 +21,9 @@ TextsAreRead = (bytes : List ℕ)
     → ((found : Found) → (sheet_of bytes ≡ Ok found → IsSheetText bytes found) × (IsSheetText bytes found → sheet_of bytes ≡ Ok found))
     × ((body : Body) → (inline_of bytes ≡ Ok body → IsInlineText bytes body) × (IsInlineText bytes body → inline_of bytes ≡ Ok body))
 
--- the default sheet is a sheet of 19 rules
+-- the text of the default sheet is a sheet that has the default rules
 abbrev pub DefaultSheetIsRead : Type 0
-DefaultSheetIsRead = (found : Found) × IsSheetText DEFAULT_SHEET.now found × (default_rules ≡ found.rules) × (length found.rules ≡ 19)
+DefaultSheetIsRead = (found : Found) × IsSheetText DEFAULT_SHEET.now found × (found.rules ≡ default_rules)
 
 -- nothing that begins as these tokens do, up to and with the one at which a fault is met, is in the grammar; where they end
 -- too soon, they aren't

@@ -1,5 +1,6 @@
 pub mod Answers
 pub mod Default
+pub mod DefaultRules
 pub mod Grammar
 pub mod Laws
 pub mod Places

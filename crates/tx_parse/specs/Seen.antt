@@ -3,7 +3,7 @@ use Rattle.std.specs.Prelude.{ℕ, List, map, Vec}
 use Rattle.std.specs.declared.alloc.Global.{Global}
 use Rattle.tx_lex.specs.Lexemes.{Lexeme, lexeme, lexemes}
 use Rattle.tx_lex.specs.declared.token.Token.{Token}
-use Rattle.tx_select.specs.declared.value.Selector.{Selector}
+use Rattle.tx_select.specs.SelectorValue.{SelectorValue}
 use Rattle.tx_parse.specs.Grammar.{Body, Found}
 use Rattle.tx_parse.specs.SheetReading.{Spelled}
 use Rattle.tx_parse.specs.Values.{DeclarationValue, important_pairs}
@@ -30,7 +30,7 @@ declarations_in written = important_pairs written.important written.pairs.items
 abbrev pub body_of : Block → Body
 body_of block = record { declarations = block.declarations.items; written = block.written }
 
-abbrev pub selectors_in : Vec Selector Global → List Selector
+abbrev pub selectors_in : Vec SelectorValue Global → List SelectorValue
 selectors_in selectors = selectors.items
 
 abbrev pub found_in : List ℕ → Gathered → Found

@@ -10,7 +10,7 @@ use Rattle.tx_select.specs.SelectorReading.{selector_at}
 use Rattle.tx_select.specs.declared.fault.SelectKind.{SelectKind}
 use Rattle.tx_select.specs.declared.fault.SelectKind.TheVariants as select
 use Rattle.tx_select.specs.declared.value.Compound.{Compound}
-use Rattle.tx_select.specs.declared.value.Selector.{Selector}
+use Rattle.tx_select.specs.SelectorValue.{SelectorValue}
 use Rattle.tx_value.specs.Declarations.{Pair, declaration}
 use Rattle.tx_value.specs.Names.{is_known}
 use Rattle.tx_value.specs.declared.fault.ValueFault.{ValueFault}
@@ -166,12 +166,12 @@ abbrev pub kind_of : SelectKind → SheetKind
 kind_of select.Expected = Expected
 kind_of select.UnknownPseudo = UnknownPseudo
 
-abbrev pub as_selector : Result (List Compound × List Lexeme) (SelectKind × List Lexeme) → Read Selector
+abbrev pub as_selector : Result (List Compound × List Lexeme) (SelectKind × List Lexeme) → Read SelectorValue
 as_selector (Ok found) = Ok (record { compounds = found.0 }, found.1)
 as_selector (Err fault) = met (kind_of fault.0) fault.1
 
 -- a selector, with spaces and comments round it
-unfoldable pub spaced_selector_at : List Lexeme → Read Selector
+unfoldable pub spaced_selector_at : List Lexeme → Read SelectorValue
 spaced_selector_at ts = as_selector (selector_at (past_blanks ts))
 
 -- behind a selector: whether further ones come, behind a comma, or none, behind a `{`
@@ -182,21 +182,21 @@ goes_on_at (t ∷ ts) =
     else if is_mark 123 t.kind then Ok (false, ts)
     else expected (t ∷ ts)
 
-abbrev pub then_selectors : (List Selector → Reads (List Selector)) → List Selector → Bool → Reads (List Selector)
+abbrev pub then_selectors : (List SelectorValue → Reads (List SelectorValue)) → List SelectorValue → Bool → Reads (List SelectorValue)
 then_selectors more found true = more found
 then_selectors more found false = give found
 
 -- Selectors behind those found before, at most so many, with a comma between two, and the `{` behind them.
-unfoldable pub selectors_from : ℕ → List Selector → List Lexeme → Read (List Selector)
+unfoldable pub selectors_from : ℕ → List SelectorValue → List Lexeme → Read (List SelectorValue)
 selectors_from zero found ts = expected (past_blanks ts)
 selectors_from (suc most) found ts =
     in_turn spaced_selector_at (λ selector. in_turn goes_on_at (then_selectors (selectors_from most) (found ++ (selector ∷ [])))) ts
 
-unfoldable pub selectors_at : List Lexeme → Read (List Selector)
+unfoldable pub selectors_at : List Lexeme → Read (List SelectorValue)
 selectors_at ts = selectors_from 64 [] ts
 
 -- the rule, and how many declarations were written in it
-abbrev pub rule_of : List Selector → Body → RuleValue × ℕ
+abbrev pub rule_of : List SelectorValue → Body → RuleValue × ℕ
 rule_of selectors body = (record { selectors = selectors; declarations = body.declarations }, body.written)
 
 unfoldable pub rule_at : Defined → List Lexeme → Read (RuleValue × ℕ)

@@ -6,7 +6,7 @@ use Rattle.tx_select.specs.Pseudo.{pseudo_name}
 use Rattle.tx_select.specs.declared.value.Part.{Part}
 use Rattle.tx_select.specs.declared.value.Part.TheVariants.{Id, Class, Pseudo}
 use Rattle.tx_select.specs.declared.value.Compound.{Compound}
-use Rattle.tx_select.specs.declared.value.Selector.{Selector}
+use Rattle.tx_select.specs.SelectorValue.{SelectorValue}
 use Rattle.tx_parse.specs.Values.{RuleValue, SheetValue}
 use Rattle.tx_parse.specs.declared.uses.Sought.{Sought}
 use Rattle.tx_parse.specs.declared.uses.Sought.TheVariants.{OfClass, OfPseudo}
@@ -31,7 +31,7 @@ is_sought OfPseudo name part = is_pseudo name part
 abbrev pub in_compound : (Part → Bool) → Compound → Bool
 in_compound test compound = list_any test compound.parts
 
-abbrev pub in_selector : (Part → Bool) → Selector → Bool
+abbrev pub in_selector : (Part → Bool) → SelectorValue → Bool
 in_selector test selector = list_any (in_compound test) selector.compounds
 
 abbrev pub in_rule : (Part → Bool) → RuleValue → Bool

@@ -1,6 +1,6 @@
 -- What contracts see of declarations, rules and sheets.
 use Rattle.std.specs.Prelude.{ℕ, Bool, List, map}
-use Rattle.tx_select.specs.declared.value.Selector.{Selector}
+use Rattle.tx_select.specs.SelectorValue.{SelectorValue}
 use Rattle.tx_value.specs.Declarations.{Pair}
 use Rattle.tx_value.specs.declared.property.Property.{Property}
 use Rattle.tx_value.specs.declared.value.Value.{Value}
@@ -11,7 +11,7 @@ pub record DeclarationValue : Type 0 where
   pub important : Bool
 
 pub record RuleValue : Type 0 where
-  pub selectors : List Selector
+  pub selectors : List SelectorValue
   pub declarations : List DeclarationValue
 
 -- the rules, how many variables were defined and how many declarations written, and the rules of the default sheet

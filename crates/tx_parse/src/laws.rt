@@ -16,7 +16,7 @@ pub fn texts_are_read()
     ensures { TextsAreRead }
 {}
 
-/// The text of the default sheet is a sheet in the grammar, with 19 rules.
+/// The text of the default sheet is a sheet in the grammar, and what it says are the default rules.
 pub fn default_sheet_is_read()
     ensures { DefaultSheetIsRead }
 {}

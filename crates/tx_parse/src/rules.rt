@@ -1,5 +1,5 @@
 //! Rules: selectors and a block.
-ghost use Rattle.std.specs.Prelude.{◌≡◌};
+ghost use Rattle.std.specs.Prelude.{◌≡◌, ◌≤◌, ◌<◌, ◌^◌, length, IfOk};
 ghost use Rattle.tx_lex.specs.Lexemes.{lexemes_from};
 ghost use Rattle.tx_parse.specs.Answers.{GivesAs};
 ghost use Rattle.tx_parse.specs.SheetReading.{kind_of, spaced_selector_at, goes_on_at, selectors_at, rule_of, rule_at};
@@ -34,6 +34,7 @@ fn spaced_selector(
     tokens: &[Token],
     at: usize,
 ) -> Result<(Selector, usize), Stop>
+    requires { length tokens.now < 2 ^ 32 }
     ensures { GivesAs (λ a. a) text.now tokens.now result
         (spaced_selector_at (lexemes_from text.now tokens.now at)) }
 {
@@ -70,8 +71,10 @@ fn selectors(
     tokens: &[Token],
     at: usize,
 ) -> Result<(Vec<Selector>, usize), Stop>
-    ensures { GivesAs selectors_in text.now tokens.now result
+    requires { length tokens.now < 2 ^ 32 }
+    ensures gives { GivesAs selectors_in text.now tokens.now result
         (selectors_at (lexemes_from text.now tokens.now at)) }
+    ensures few { IfOk result (λ found. length found.0.items ≤ 64) }
 {
     let mut found = Vec::new(alloc);
     let mut behind = at;
@@ -91,6 +94,7 @@ fn selectors(
 
 /// The rule of these selectors and this block, and how many declarations were written in it.
 fn rule_of(selectors: Vec<Selector>, block: Block) -> (Rule, u32)
+    requires { length selectors.items ≤ 64 }
     ensures { result ≡ rule_of selectors.items (body_of block) }
 {
     let Block {
@@ -110,6 +114,7 @@ pub fn rule(
     at: usize,
     variables: &Variables,
 ) -> Result<((Rule, u32), usize), Stop>
+    requires { length tokens.now < 2 ^ 32 }
     ensures { GivesAs (λ a. a) text.now tokens.now result
         (rule_at (defined_in text.now variables.now) (lexemes_from text.now tokens.now at)) }
 {

@@ -1,7 +1,7 @@
 //! Sheets as values.
-ghost use Rattle.std.specs.Prelude.{◌≡◌};
+ghost use Rattle.std.specs.Prelude.{◌≡◌, ◌≤◌, length};
 ghost use Rattle.tx_value.specs.Holds.{HoldsOf};
-ghost use Rattle.tx_parse.specs.Default.{default_rules};
+ghost use Rattle.tx_parse.specs.DefaultRules.{default_rules};
 ghost use Rattle.tx_parse.specs.Uses.{is_class, is_pseudo, in_sheet};
 
 use crate::uses::{Sought, in_rules};
@@ -79,15 +79,19 @@ pub struct Rule {
 }
 
 impl Model for Rule {
+    ghost use Rattle.std.specs.Prelude.{◌≤◌, length};
     ghost use Rattle.tx_parse.specs.Values.{RuleValue};
 
     ghost Value = { RuleValue };
 
     ghost view = { λ r. record { selectors = r.selectors; declarations = r.declarations } };
+
+    ghost invariant = { λ r. length r.selectors ≤ 64 };
 }
 
 impl Rule {
     pub(crate) fn of(selectors: Selectors, declarations: Declarations) -> Rule
+        requires { length selectors ≤ 64 }
         ensures { result ≡ record { selectors = selectors; declarations = declarations } }
     {
         Rule {
@@ -98,7 +102,8 @@ impl Rule {
 
     /// The selectors, at most 64.
     pub fn selectors(&self) -> &Selectors
-        ensures { result.now ≡ self.now.selectors }
+        ensures selectors { result.now ≡ self.now.selectors }
+        ensures few { length self.now.selectors ≤ 64 }
     {
         &self.selectors
     }
@@ -124,20 +129,21 @@ pub struct Sheet {
 }
 
 impl Model for Sheet {
-    ghost use Rattle.std.specs.Prelude.{◌≡◌};
-    ghost use Rattle.tx_parse.specs.Default.{default_rules};
+    ghost use Rattle.std.specs.Prelude.{◌≡◌, ◌≤◌, length};
+    ghost use Rattle.tx_parse.specs.DefaultRules.{default_rules};
     ghost use Rattle.tx_parse.specs.Values.{SheetValue};
 
     ghost Value = { SheetValue };
 
     ghost view = { λ s. record { rules = s.rules; variables = s.variables; declarations = s.declarations; defaults = s.defaults } };
 
-    ghost invariant = { λ s. s.defaults ≡ default_rules };
+    ghost invariant = { λ s. (s.defaults ≡ default_rules) × (length s.rules ≤ 10000) };
 }
 
 impl Sheet {
     pub(crate) fn of(rules: Rules, variables: u32, declarations: u32, defaults: Rules) -> Sheet
-        requires { defaults ≡ default_rules }
+        requires known { defaults ≡ default_rules }
+        requires few { length rules ≤ 10000 }
         ensures { result ≡
             record { rules = rules; variables = variables; declarations = declarations; defaults = defaults } }
     {
@@ -151,7 +157,8 @@ impl Sheet {
 
     /// The rules, at most 10,000.
     pub fn rules(&self) -> &Rules
-        ensures { result.now ≡ self.now.rules }
+        ensures rules { result.now ≡ self.now.rules }
+        ensures few { length self.now.rules ≤ 10000 }
     {
         &self.rules
     }

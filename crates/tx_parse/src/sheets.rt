@@ -1,5 +1,5 @@
 //! Variables and rules one behind another.
-ghost use Rattle.std.specs.Prelude.{◌≡◌, ◌<◌, Some, IfOk};
+ghost use Rattle.std.specs.Prelude.{◌≡◌, ◌<◌, ◌^◌, length, Some, IfOk};
 ghost use Rattle.tx_lex.specs.Lexemes.{lexemes_from, IsNth};
 ghost use Rattle.tx_parse.specs.Answers.{GivesAs, gathered_in};
 ghost use Rattle.tx_parse.specs.Grammar.{nothing_found, with_variable, with_rule};
@@ -144,6 +144,7 @@ fn rule_in_sheet(
     at: usize,
     found: Gathered,
 ) -> Result<(Gathered, usize), Stop>
+    requires { length tokens.now < 2 ^ 32 }
     ensures { GivesAs (found_in text.now) text.now tokens.now result
         (rule_in_sheet (found_in text.now found) (lexemes_from text.now tokens.now at)) }
 {
@@ -165,7 +166,8 @@ fn part(
     first: Token,
     found: Gathered,
 ) -> Result<(Gathered, usize), Stop>
-    requires { IsNth tokens.now at (Some first) }
+    requires first { IsNth tokens.now at (Some first) }
+    requires few { length tokens.now < 2 ^ 32 }
     ensures { GivesAs (found_in text.now) text.now tokens.now result
         (part_at (found_in text.now found) (lexemes_from text.now tokens.now at)) }
 {
@@ -180,6 +182,7 @@ fn part(
 
 /// The variables and rules of a whole sheet.
 pub fn sheet(alloc: Global, text: &[u8], tokens: &[Token]) -> Result<(Gathered, usize), Stop>
+    requires { length tokens.now < 2 ^ 32 }
     ensures { GivesAs (found_in text.now) text.now tokens.now result
         (sheet_at (lexemes_from text.now tokens.now 0)) }
 {

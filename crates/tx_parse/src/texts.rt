@@ -4,7 +4,8 @@ ghost use Rattle.tx_read.specs.Answer.{Gives};
 ghost use Rattle.tx_lex.specs.Lexemes.{lexemes, lexemes_from};
 ghost use Rattle.tx_lex.specs.Lexing.{lexed};
 ghost use Rattle.tx_parse.specs.Answers.{judged_answer};
-ghost use Rattle.tx_parse.specs.Default.{default_rules, sheet_value};
+ghost use Rattle.tx_parse.specs.Default.{sheet_value};
+ghost use Rattle.tx_parse.specs.DefaultRules.{default_rules};
 ghost use Rattle.tx_parse.specs.Grammar.{Body, Found};
 ghost use Rattle.tx_parse.specs.Seen.{body_of, found_in};
 ghost use Rattle.tx_parse.specs.Texts.{last_comment, tokens_of, kind_of, fault_at, of_lexer, reported, located, told, sheet_of, inline_of, IsSheetText, IsInlineText};
@@ -48,6 +49,7 @@ fn all_tokens(alloc: Global, bytes: &[u8]) -> Result<AllTokens, AllocError>
     requires { length bytes.now < 2 ^ 32 }
     ensures tokens { IfOk result (λ all. lexemes bytes.now all.tokens.items ≡ tokens_of bytes.now) }
     ensures fault { IfOk result (λ all. all.fault ≡ (lexed bytes.now).fault) }
+    ensures few { IfOk result (λ all. length all.tokens.items < 2 ^ 32) }
 {
     let Scanned { tokens, fault } = scan(alloc, bytes)?;
     let tokens = with_comment(tokens, fault)?;
@@ -168,7 +170,7 @@ fn inline_text(alloc: Global, bytes: &[u8]) -> Result<Block, SheetFault>
 }
 
 /// The rules of the default sheet.
-#[tactic(auto, unfolding(crate::specs::Default::default_rules))]
+#[tactic(auto, using(crate::proofs::DefaultRead::default_reading))]
 fn defaults(alloc: Global) -> Result<Rules, AllocError>
     ensures { IfOk result (λ rules. rules ≡ default_rules) }
 {

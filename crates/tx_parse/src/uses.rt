@@ -49,7 +49,7 @@ fn in_selector(sought: Sought, name: &Name, selector: &Selector) -> bool
     ensures { result ≡ in_selector (is_sought sought name.now) selector.now }
 {
     selector
-        .compounds
+        .compounds()
         .as_slice()
         .iter()
         .any(|compound| in_compound(sought, name, compound))
