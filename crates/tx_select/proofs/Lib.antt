@@ -1,9 +1,15 @@
 pub mod Again
 pub mod AgainWhole
+pub mod Ancestry
+pub mod FitsUp
 pub mod Found
 pub mod FoundWhole
 pub mod Local
+pub mod Placed
+pub mod Plain
+pub mod Queries
 pub mod Small
 pub mod Steps
+pub mod Upwards
 pub mod WholeTexts
 pub mod lemmas

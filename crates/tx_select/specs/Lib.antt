@@ -1,7 +1,11 @@
 pub mod Answers
+pub mod Climb
 pub mod Grammar
+pub mod Holds
+pub mod KindNames
 pub mod Laws
 pub mod Lexemes
+pub mod Match
 pub mod Pseudo
 pub mod SelectorReading
 pub mod SelectorValue

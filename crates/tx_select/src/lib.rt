@@ -3,9 +3,13 @@
 //! [`read_selector`] reads a text, and [`selector_at`] a selector that stands among other tokens.
 #![tactic(auto)]
 
+mod climb;
 mod fault;
+mod holds;
+mod kinds;
 pub mod laws;
 mod lexemes;
+mod matching;
 mod reader;
 mod specific;
 #[cfg(test)]
@@ -15,6 +19,7 @@ mod value;
 
 pub use fault::{SelectFault, SelectKind, TokenFault};
 pub use lexemes::begins_compound;
+pub use matching::{matches, query, query_one};
 pub use specific::specificity;
 pub use texts::{read_selector, selector_at};
 pub use value::{Compound, Compounds, Part, Parts, Pseudo, PseudoName, Selector};
