@@ -9,7 +9,7 @@ use Rattle.tx_tree.specs.Edits.{is_first}
 use Rattle.tx_tree.specs.declared.kind.Kind.{Kind}
 use Rattle.tx_tree.specs.declared.row.NodeId.{NodeId}
 use Rattle.tx_tree.specs.declared.row.Row.{Row}
-use Rattle.tx_select.specs.KindNames.{is_called}
+use Rattle.tx_tree.specs.Kind.{is_called}
 use Rattle.tx_select.specs.declared.value.Part.{Part}
 use Rattle.tx_select.specs.declared.value.Part.TheVariants.{Id, Class, Pseudo}
 use Rattle.tx_select.specs.declared.value.PseudoName.{PseudoName}

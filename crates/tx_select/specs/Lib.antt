@@ -2,7 +2,6 @@ pub mod Answers
 pub mod Climb
 pub mod Grammar
 pub mod Holds
-pub mod KindNames
 pub mod Laws
 pub mod Lexemes
 pub mod Match

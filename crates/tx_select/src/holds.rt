@@ -5,7 +5,6 @@ ghost use Rattle.tx_tree.specs.Classes.{has_name};
 ghost use Rattle.tx_tree.specs.Rows.{has_id};
 ghost use Rattle.tx_select.specs.Holds.{is_row_of, is_above, is_disabled, is_first_child, is_last_child, pseudo_holds, part_holds, kind_holds, compound_holds};
 
-use crate::kinds::is_called;
 use crate::value::{Compound, Part, Pseudo, PseudoName};
 use tx_text::Name;
 use tx_tree::{Kind, NodeId, Row, Tree};
@@ -119,7 +118,7 @@ fn kind_holds(name: &Option<Name>, kind: &Kind) -> bool
     ensures { result ≡ kind_holds name.now kind.now }
 {
     match name {
-        Some(name) => is_called(kind, name),
+        Some(name) => kind.is_called(name.as_str()),
         None => true,
     }
 }

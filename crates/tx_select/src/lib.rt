@@ -6,7 +6,6 @@
 mod climb;
 mod fault;
 mod holds;
-mod kinds;
 pub mod laws;
 mod lexemes;
 mod matching;
