@@ -8,6 +8,8 @@ mod fault;
 mod holds;
 pub mod laws;
 mod lexemes;
+#[cfg(test)]
+mod match_tests;
 mod matching;
 mod reader;
 mod specific;
