@@ -5,67 +5,41 @@ use Rattle.std.specs.Prelude.{IfOk, option_and_then, codes}
 use Rattle.tx_lex.specs.Lexemes.{Lexeme}
 use Rattle.tx_value.specs.Answers.{GivesSome}
 use Rattle.tx_value.specs.Names.{is_only}
-use Rattle.tx_value.specs.Values.{joined, value_of}
+use Rattle.tx_value.specs.Values.{joined, value_of_sort, value_of}
 use Rattle.tx_value.specs.Declarations.{Pair, share, pairs_from, all_initial, pairs_of}
-use Rattle.tx_value.specs.Holds.{is_given, may_hold, AllHold}
-use Rattle.tx_value.specs.Tables.{properties, displays, visibilities, layouts, docks, box_sizings, overflows, places_across, places_down}
+use Rattle.tx_value.specs.Holds.{is_of_sort, is_given, may_hold, AllHold}
+use Rattle.tx_value.specs.PropertyTable.{Sort, Keyword, Size, Limit, Whole, Border, Colour, Marks, GridSize, Tracks, Gutter, Layers, Layer, Offset, sort_of}
+use Rattle.tx_value.specs.Tables.{properties}
 use Rattle.tx_value.specs.declared.fault.ValueFault.{ValueFault}
 use Rattle.tx_value.specs.declared.fault.ValueFault.TheVariants.{BadValue}
 use Rattle.tx_value.specs.declared.property.Named.{Named}
 use Rattle.tx_value.specs.declared.property.Property.{Property}
-use Rattle.tx_value.specs.declared.property.Property.TheVariants as property
 use Rattle.tx_value.specs.declared.value.Value.{Value}
 use Rattle.tx_value.specs.declared.value.Value.TheVariants as value
 use Rattle.tx_value.proofs.Joined.{some_of_ok}
 use Rattle.tx_value.proofs.Passing.{passes}
 use Rattle.tx_value.proofs.Sorts as sorts
 
--- ---- one property
+-- ---- one sort, and one property
+
+value_of_sort_given : (s : Sort) (ts : List Lexeme) → passes (is_of_sort s) (value_of_sort s ts) ≡ true
+value_of_sort_given (Keyword choices first) ts = sorts.word choices ts
+value_of_sort_given Size ts = sorts.size ts
+value_of_sort_given Limit ts = sorts.limit ts
+value_of_sort_given (Whole least most) ts = sorts.whole least most ts
+value_of_sort_given Border ts = sorts.border ts
+value_of_sort_given (Colour first) ts = sorts.ink ts
+value_of_sort_given Marks ts = sorts.text_style ts
+value_of_sort_given GridSize ts = sorts.grid_size ts
+value_of_sort_given Tracks ts = sorts.tracks ts
+value_of_sort_given Gutter ts = sorts.gutter ts
+value_of_sort_given Layers ts = sorts.layers ts
+value_of_sort_given Layer ts = sorts.layer ts
+value_of_sort_given Offset ts = sorts.offset ts
 
 value_given : (p : Property) (ts : List Lexeme) → passes (is_given p) (value_of p ts) ≡ true
 unfolding is_given value_of
-value_given property.Display ts = sorts.word displays ts
-value_given property.Visibility ts = sorts.word visibilities ts
-value_given property.Layout ts = sorts.word layouts ts
-value_given property.Dock ts = sorts.word docks ts
-value_given property.Width ts = sorts.size ts
-value_given property.Height ts = sorts.size ts
-value_given property.MinWidth ts = sorts.limit ts
-value_given property.MaxWidth ts = sorts.limit ts
-value_given property.MinHeight ts = sorts.limit ts
-value_given property.MaxHeight ts = sorts.limit ts
-value_given property.BoxSizing ts = sorts.word box_sizings ts
-value_given property.MarginTop ts = sorts.whole 0 9999 ts
-value_given property.MarginRight ts = sorts.whole 0 9999 ts
-value_given property.MarginBottom ts = sorts.whole 0 9999 ts
-value_given property.MarginLeft ts = sorts.whole 0 9999 ts
-value_given property.PaddingTop ts = sorts.whole 0 9999 ts
-value_given property.PaddingRight ts = sorts.whole 0 9999 ts
-value_given property.PaddingBottom ts = sorts.whole 0 9999 ts
-value_given property.PaddingLeft ts = sorts.whole 0 9999 ts
-value_given property.BorderTop ts = sorts.border ts
-value_given property.BorderRight ts = sorts.border ts
-value_given property.BorderBottom ts = sorts.border ts
-value_given property.BorderLeft ts = sorts.border ts
-value_given property.Background ts = sorts.ink ts
-value_given property.Color ts = sorts.ink ts
-value_given property.TextStyle ts = sorts.text_style ts
-value_given property.GridSize ts = sorts.grid_size ts
-value_given property.GridColumns ts = sorts.tracks ts
-value_given property.GridRows ts = sorts.tracks ts
-value_given property.GridGutter ts = sorts.gutter ts
-value_given property.ColumnSpan ts = sorts.whole 1 100 ts
-value_given property.RowSpan ts = sorts.whole 1 100 ts
-value_given property.Layers ts = sorts.layers ts
-value_given property.Layer ts = sorts.layer ts
-value_given property.OverflowX ts = sorts.word overflows ts
-value_given property.OverflowY ts = sorts.word overflows ts
-value_given property.Offset ts = sorts.offset ts
-value_given property.AlignHorizontal ts = sorts.word places_across ts
-value_given property.AlignVertical ts = sorts.word places_down ts
-value_given property.ContentAlignHorizontal ts = sorts.word places_across ts
-value_given property.ContentAlignVertical ts = sorts.word places_down ts
-value_given property.TextAlign ts = sorts.word places_across ts
+value_given p ts = value_of_sort_given (sort_of p) ts
 
 given_held : (p : Property) (v : Value) → is_given p v ≡ true → may_hold p v ≡ true
 given_held p value.Initial h = refl

@@ -5,7 +5,7 @@ use Rattle.tx_value.specs.declared.property.Property.{Property}
 use Rattle.tx_value.specs.declared.property.Property.TheVariants as property
 
 -- each property stands at its number
-numbered : (p : Property) → slice_get every_property (number p) ≡ Some p
+pub numbered : (p : Property) → slice_get every_property (number p) ≡ Some p
 unfolding number
 numbered property.Display = refl
 numbered property.Visibility = refl

@@ -1,9 +1,8 @@
 -- What values say lies in the bounds of the table of properties.
-use Rattle.std.proofs.Common.{◌≡◌, ℕ, zero, suc, ℤ, Bool, true, false, ◌&&◌, nat_le, List, [], length, Option, Some, None, cond, refl}
+use Rattle.std.proofs.Common.{◌≡◌, ℕ, Bool, true, false, ◌&&◌, List, [], length, Option, Some, None, cond, refl}
 use Rattle.std.specs.Prelude.{unsigned_abs, IfSome, IsTrue}
 use Rattle.std.specs.List.{list_all}
 use Rattle.std.proofs.lemmas.Bool.{and_parts, and_from}
-use Rattle.tx_frac.specs.declared.scalars.Scalar.{Scalar}
 use Rattle.tx_geom.specs.declared.choices.Axis.{Axis}
 use Rattle.tx_geom.specs.declared.choices.Axis.TheVariants.{Width, Height}
 use Rattle.tx_value.specs.Holds.{is_optional_rows, is_offset_part, is_gutter_part}

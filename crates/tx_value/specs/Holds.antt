@@ -9,9 +9,8 @@ use Rattle.tx_text.specs.Name.{is_name}
 use Rattle.tx_value.specs.Names.{same_word, among}
 use Rattle.tx_lex.specs.Digits.{most_whole, most_decimals}
 use Rattle.tx_value.specs.Numbers.{is_share, is_within}
-use Rattle.tx_value.specs.Tables.{displays, visibilities, layouts, docks, box_sizings, overflows, places_across, places_down}
+use Rattle.tx_value.specs.PropertyTable.{Sort, Keyword, Size, Limit, Whole, Border, Colour, Marks, GridSize, Tracks, Gutter, Layers, Layer, Offset, sort_of}
 use Rattle.tx_value.specs.declared.property.Property.{Property}
-use Rattle.tx_value.specs.declared.property.Property.TheVariants as property
 use Rattle.tx_value.specs.declared.value.Ink.{Ink}
 use Rattle.tx_value.specs.declared.value.Ink.TheVariants.{Fixed, Theme}
 use Rattle.tx_value.specs.declared.value.Value.{Value}
@@ -119,52 +118,26 @@ abbrev pub is_layer : Value → Bool
 is_layer (value.Layer name) = is_name name
 is_layer _ = false
 
--- ---- the table of properties
+-- ---- by the table of properties
+
+abbrev pub is_of_sort : Sort → Value → Bool
+is_of_sort (Keyword choices first) v = is_word choices v
+is_of_sort Size v = is_size v
+is_of_sort Limit v = is_limit v
+is_of_sort (Whole least most) v = is_whole least most v
+is_of_sort Border v = is_border v
+is_of_sort (Colour first) v = is_colour v
+is_of_sort Marks v = is_text_style v
+is_of_sort GridSize v = is_grid_size v
+is_of_sort Tracks v = are_tracks v
+is_of_sort Gutter v = is_gutter v
+is_of_sort Layers v = are_layers v
+is_of_sort Layer v = is_layer v
+is_of_sort Offset v = is_offset v
 
 -- `initial` aside
 unfoldable pub is_given : Property → Value → Bool
-is_given property.Display v = is_word displays v
-is_given property.Visibility v = is_word visibilities v
-is_given property.Layout v = is_word layouts v
-is_given property.Dock v = is_word docks v
-is_given property.Width v = is_size v
-is_given property.Height v = is_size v
-is_given property.MinWidth v = is_limit v
-is_given property.MaxWidth v = is_limit v
-is_given property.MinHeight v = is_limit v
-is_given property.MaxHeight v = is_limit v
-is_given property.BoxSizing v = is_word box_sizings v
-is_given property.MarginTop v = is_whole 0 9999 v
-is_given property.MarginRight v = is_whole 0 9999 v
-is_given property.MarginBottom v = is_whole 0 9999 v
-is_given property.MarginLeft v = is_whole 0 9999 v
-is_given property.PaddingTop v = is_whole 0 9999 v
-is_given property.PaddingRight v = is_whole 0 9999 v
-is_given property.PaddingBottom v = is_whole 0 9999 v
-is_given property.PaddingLeft v = is_whole 0 9999 v
-is_given property.BorderTop v = is_border v
-is_given property.BorderRight v = is_border v
-is_given property.BorderBottom v = is_border v
-is_given property.BorderLeft v = is_border v
-is_given property.Background v = is_colour v
-is_given property.Color v = is_colour v
-is_given property.TextStyle v = is_text_style v
-is_given property.GridSize v = is_grid_size v
-is_given property.GridColumns v = are_tracks v
-is_given property.GridRows v = are_tracks v
-is_given property.GridGutter v = is_gutter v
-is_given property.ColumnSpan v = is_whole 1 100 v
-is_given property.RowSpan v = is_whole 1 100 v
-is_given property.Layers v = are_layers v
-is_given property.Layer v = is_layer v
-is_given property.OverflowX v = is_word overflows v
-is_given property.OverflowY v = is_word overflows v
-is_given property.Offset v = is_offset v
-is_given property.AlignHorizontal v = is_word places_across v
-is_given property.AlignVertical v = is_word places_down v
-is_given property.ContentAlignHorizontal v = is_word places_across v
-is_given property.ContentAlignVertical v = is_word places_down v
-is_given property.TextAlign v = is_word places_across v
+is_given property v = is_of_sort (sort_of property) v
 
 -- `initial`, or what the table gives
 abbrev pub may_hold : Property → Value → Bool

@@ -4,59 +4,30 @@ use Rattle.tx_frac.specs.Ratio.{whole_of}
 use Rattle.tx_frac.specs.declared.scalars.Scalar.{Scalar}
 use Rattle.tx_frac.specs.declared.scalars.Unit.TheVariants.{Percent}
 use Rattle.tx_geom.specs.Marks.{no_marks}
-use Rattle.tx_value.specs.Colours.{clear}
+use Rattle.tx_value.specs.PropertyTable.{Sort, Keyword, Size, Limit, Whole, Border, Colour, Marks, GridSize, Tracks, Gutter, Layers, Layer, Offset, sort_of}
 use Rattle.tx_value.specs.declared.property.Property.{Property}
-use Rattle.tx_value.specs.declared.property.Property.TheVariants as property
-use Rattle.tx_value.specs.declared.theme.ThemeName.TheVariants.{Foreground}
-use Rattle.tx_value.specs.declared.value.Ink.TheVariants.{Theme}
 use Rattle.tx_value.specs.declared.value.Value.{Value}
 use Rattle.tx_value.specs.declared.value.Value.TheVariants as value
-use Rattle.tx_value.specs.declared.value.Word.TheVariants as word
+use Rattle.tx_value.specs.declared.value.Word.TheVariants.{Nothing}
 
 -- the whole of what it is a size of
 abbrev pub whole_size : Scalar
 whole_size = record { value = whole_of (pos 100); unit = Percent }
 
+abbrev pub initial_of_sort : Sort → Value
+initial_of_sort (Keyword choices first) = value.Word first
+initial_of_sort Size = value.Size whole_size
+initial_of_sort Limit = value.Word Nothing
+initial_of_sort (Whole least most) = value.Whole least
+initial_of_sort Border = value.Word Nothing
+initial_of_sort (Colour first) = value.Ink first
+initial_of_sort Marks = value.Marks no_marks
+initial_of_sort GridSize = value.GridSize 1 None
+initial_of_sort Tracks = value.Sizes []
+initial_of_sort Gutter = value.Pair (pos 0) (pos 0)
+initial_of_sort Layers = value.Word Nothing
+initial_of_sort Layer = value.Word Nothing
+initial_of_sort Offset = value.Pair (pos 0) (pos 0)
+
 unfoldable pub initial : Property → Value
-initial property.Display = value.Word word.Block
-initial property.Visibility = value.Word word.Visible
-initial property.Layout = value.Word word.Vertical
-initial property.Dock = value.Word word.Nothing
-initial property.Width = value.Size whole_size
-initial property.Height = value.Size whole_size
-initial property.MinWidth = value.Word word.Nothing
-initial property.MaxWidth = value.Word word.Nothing
-initial property.MinHeight = value.Word word.Nothing
-initial property.MaxHeight = value.Word word.Nothing
-initial property.BoxSizing = value.Word word.BorderBox
-initial property.MarginTop = value.Whole 0
-initial property.MarginRight = value.Whole 0
-initial property.MarginBottom = value.Whole 0
-initial property.MarginLeft = value.Whole 0
-initial property.PaddingTop = value.Whole 0
-initial property.PaddingRight = value.Whole 0
-initial property.PaddingBottom = value.Whole 0
-initial property.PaddingLeft = value.Whole 0
-initial property.BorderTop = value.Word word.Nothing
-initial property.BorderRight = value.Word word.Nothing
-initial property.BorderBottom = value.Word word.Nothing
-initial property.BorderLeft = value.Word word.Nothing
-initial property.Background = value.Ink clear
-initial property.Color = value.Ink (Theme Foreground 100)
-initial property.TextStyle = value.Marks no_marks
-initial property.GridSize = value.GridSize 1 None
-initial property.GridColumns = value.Sizes []
-initial property.GridRows = value.Sizes []
-initial property.GridGutter = value.Pair (pos 0) (pos 0)
-initial property.ColumnSpan = value.Whole 1
-initial property.RowSpan = value.Whole 1
-initial property.Layers = value.Word word.Nothing
-initial property.Layer = value.Word word.Nothing
-initial property.OverflowX = value.Word word.Hidden
-initial property.OverflowY = value.Word word.Hidden
-initial property.Offset = value.Pair (pos 0) (pos 0)
-initial property.AlignHorizontal = value.Word word.Left
-initial property.AlignVertical = value.Word word.Top
-initial property.ContentAlignHorizontal = value.Word word.Left
-initial property.ContentAlignVertical = value.Word word.Top
-initial property.TextAlign = value.Word word.Left
+initial property = initial_of_sort (sort_of property)

@@ -1,10 +1,9 @@
 -- Laws of what styles say.
-use Rattle.std.specs.Prelude.{◌≡◌, ℕ, nat_le, Bool, true, not, ◌&&◌, IsTrue, IfSome, List, map}
+use Rattle.std.specs.Prelude.{◌≡◌, ℕ, nat_le, Bool, not, ◌&&◌, IsTrue, IfSome, List, map}
 use Rattle.std.specs.List.{list_all}
 use Rattle.tx_frac.specs.declared.scalars.Scalar.{Scalar}
 use Rattle.tx_geom.specs.declared.choices.Axis.{Axis}
 use Rattle.tx_geom.specs.declared.choices.Edge.{Edge}
-use Rattle.tx_geom.specs.declared.places.Offset.{Offset}
 use Rattle.tx_geom.specs.declared.places.Spacing.{Spacing}
 use Rattle.tx_value.specs.Holds.{is_optional_rows, is_offset_part}
 use Rattle.tx_value.specs.Numbers.{is_share, is_within}

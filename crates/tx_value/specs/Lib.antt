@@ -10,6 +10,7 @@ pub mod Laws
 pub mod Names
 pub mod Numbers
 pub mod Parts
+pub mod PropertyTable
 pub mod Style
 pub mod StyleReads
 pub mod Tables

@@ -1,5 +1,5 @@
 -- What a style says of each property, by the value that it has for it.
-use Rattle.std.specs.Prelude.{◌≡◌, ℕ, ◌+◌, Bool, not, List, Option, is_some, if◌then◌else◌, map}
+use Rattle.std.specs.Prelude.{ℕ, ◌+◌, Bool, not, List, Option, is_some, if◌then◌else◌}
 use Rattle.tx_frac.specs.declared.scalars.Scalar.{Scalar}
 use Rattle.tx_geom.specs.declared.choices.AlignX.{AlignX}
 use Rattle.tx_geom.specs.declared.choices.AlignY.{AlignY}
@@ -13,7 +13,7 @@ use Rattle.tx_geom.specs.declared.choices.Overflow.{Overflow}
 use Rattle.tx_geom.specs.declared.places.Offset.{Offset}
 use Rattle.tx_geom.specs.declared.places.Spacing.{Spacing}
 use Rattle.tx_geom.specs.declared.styles.TextStyle.{TextStyle}
-use Rattle.tx_value.specs.Style.{style_value, every_property, initial_style}
+use Rattle.tx_value.specs.Style.{style_value}
 use Rattle.tx_value.specs.ValueReads.{word_in, says, size_in, limit_in, tracks_in, cells_in, span_in, grid_size_in, grid_gutter_in, offset_in, layer_in, layers_in, background_in, color_in, border_in, marks_in}
 use Rattle.tx_value.specs.WordMeanings.{layout_of, dock_of, sizing_of, overflow_of, across_of, down_of}
 use Rattle.tx_value.specs.declared.property.Property.{Property}
@@ -21,7 +21,6 @@ use Rattle.tx_value.specs.declared.property.Property.TheVariants as property
 use Rattle.tx_value.specs.declared.reads.values.Border.{Border}
 use Rattle.tx_value.specs.declared.value.Ink.{Ink}
 use Rattle.tx_value.specs.declared.value.Value.{Value}
-use Rattle.tx_value.specs.declared.value.Value.TheVariants.{Initial}
 use Rattle.tx_value.specs.declared.value.Word.{Word}
 use Rattle.tx_value.specs.declared.value.Word.TheVariants as word
 

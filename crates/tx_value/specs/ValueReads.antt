@@ -1,5 +1,5 @@
 -- What a value says of each sort. A value of another sort, `initial` too, says what the initial one of the properties of that sort says.
-use Rattle.std.specs.Prelude.{ℕ, ℤ, pos, int_lt, unsigned_abs, nat_le, min, Bool, true, false, not, ◌&&◌, List, [], ◌∷◌, length, Option, Some, None, unwrap_or, codes, if◌then◌else◌}
+use Rattle.std.specs.Prelude.{ℕ, pos, int_lt, unsigned_abs, nat_le, min, Bool, not, ◌&&◌, List, [], ◌∷◌, length, Option, Some, None, unwrap_or, codes, if◌then◌else◌}
 use Rattle.std.specs.List.{list_all}
 use Rattle.tx_frac.specs.declared.scalars.Scalar.{Scalar}
 use Rattle.tx_geom.specs.Colour.{Tint}

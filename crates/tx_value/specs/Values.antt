@@ -10,9 +10,9 @@ use Rattle.tx_read.specs.Words.{entry}
 use Rattle.tx_value.specs.Names.{is_word, is_only, name_in, word_of}
 use Rattle.tx_value.specs.Numbers.{is_within, scalar_of, size_of, limit_of, whole_of_token, signed_of}
 use Rattle.tx_value.specs.Colours.{colour}
-use Rattle.tx_value.specs.Tables.{displays, visibilities, layouts, docks, box_sizings, overflows, places_across, places_down, borders, marks}
+use Rattle.tx_value.specs.Tables.{borders, marks}
+use Rattle.tx_value.specs.PropertyTable.{Sort, Keyword, Size, Limit, Whole, Border, Colour, Marks, GridSize, Tracks, Gutter, Layers, Layer, Offset, sort_of}
 use Rattle.tx_value.specs.declared.property.Property.{Property}
-use Rattle.tx_value.specs.declared.property.Property.TheVariants as property
 use Rattle.tx_value.specs.declared.value.Ink.{Ink}
 use Rattle.tx_value.specs.declared.value.Value.{Value}
 use Rattle.tx_value.specs.declared.value.Value.TheVariants as value
@@ -140,48 +140,22 @@ layers ts = option_map (λ names. value.Names names) (some_of 32 name_of ts)
 abbrev pub layer : List Lexeme → Option Value
 layer ts = option_map (λ name. value.Layer name) (alone name_of ts)
 
--- ---- the table of properties
+-- ---- by the table of properties
+
+abbrev pub value_of_sort : Sort → List Lexeme → Option Value
+value_of_sort (Keyword choices first) ts = word choices ts
+value_of_sort Size ts = size ts
+value_of_sort Limit ts = limit ts
+value_of_sort (Whole least most) ts = whole least most ts
+value_of_sort Border ts = border ts
+value_of_sort (Colour first) ts = ink ts
+value_of_sort Marks ts = text_style ts
+value_of_sort GridSize ts = grid_size ts
+value_of_sort Tracks ts = tracks ts
+value_of_sort Gutter ts = gutter ts
+value_of_sort Layers ts = layers ts
+value_of_sort Layer ts = layer ts
+value_of_sort Offset ts = offset ts
 
 unfoldable pub value_of : Property → List Lexeme → Option Value
-value_of property.Display ts = word displays ts
-value_of property.Visibility ts = word visibilities ts
-value_of property.Layout ts = word layouts ts
-value_of property.Dock ts = word docks ts
-value_of property.Width ts = size ts
-value_of property.Height ts = size ts
-value_of property.MinWidth ts = limit ts
-value_of property.MaxWidth ts = limit ts
-value_of property.MinHeight ts = limit ts
-value_of property.MaxHeight ts = limit ts
-value_of property.BoxSizing ts = word box_sizings ts
-value_of property.MarginTop ts = whole 0 9999 ts
-value_of property.MarginRight ts = whole 0 9999 ts
-value_of property.MarginBottom ts = whole 0 9999 ts
-value_of property.MarginLeft ts = whole 0 9999 ts
-value_of property.PaddingTop ts = whole 0 9999 ts
-value_of property.PaddingRight ts = whole 0 9999 ts
-value_of property.PaddingBottom ts = whole 0 9999 ts
-value_of property.PaddingLeft ts = whole 0 9999 ts
-value_of property.BorderTop ts = border ts
-value_of property.BorderRight ts = border ts
-value_of property.BorderBottom ts = border ts
-value_of property.BorderLeft ts = border ts
-value_of property.Background ts = ink ts
-value_of property.Color ts = ink ts
-value_of property.TextStyle ts = text_style ts
-value_of property.GridSize ts = grid_size ts
-value_of property.GridColumns ts = tracks ts
-value_of property.GridRows ts = tracks ts
-value_of property.GridGutter ts = gutter ts
-value_of property.ColumnSpan ts = whole 1 100 ts
-value_of property.RowSpan ts = whole 1 100 ts
-value_of property.Layers ts = layers ts
-value_of property.Layer ts = layer ts
-value_of property.OverflowX ts = word overflows ts
-value_of property.OverflowY ts = word overflows ts
-value_of property.Offset ts = offset ts
-value_of property.AlignHorizontal ts = word places_across ts
-value_of property.AlignVertical ts = word places_down ts
-value_of property.ContentAlignHorizontal ts = word places_across ts
-value_of property.ContentAlignVertical ts = word places_down ts
-value_of property.TextAlign ts = word places_across ts
+value_of property ts = value_of_sort (sort_of property) ts

@@ -11,6 +11,9 @@ use tx_lex::tokens;
 
 /// A style with what a declaration gives.
 fn declared(alloc: Global, mut style: Style, declaration: &str) -> Result<Style, Fail> {
+    if declaration.len() >= 10_000 {
+        return Err(Fail::from("a long text"));
+    }
     let (name, values) = declaration.split_once(":").ok_or("no values")?;
     let Ok(tokens) = tokens(alloc, values) else {
         return Err(Fail::from("no tokens"));
@@ -26,9 +29,6 @@ fn declared(alloc: Global, mut style: Style, declaration: &str) -> Result<Style,
 
 /// The style that declarations with `;` between them make.
 fn styled(alloc: Global, declarations: &str) -> Result<Style, Fail> {
-    if declarations.len() >= 10_000 {
-        return Err(Fail::from("a long text"));
-    }
     let mut style = Style::initial(alloc)?;
     for declaration in declarations.split(';') {
         style = declared(alloc, style, declaration)?;
@@ -263,17 +263,20 @@ layers:low top;layer:top;offset:-3 4 => [low;top;] top -3 4",
     )
 }
 
+fn below_zero() -> Scalar {
+    Scalar {
+        value: Frac::whole(-1),
+        unit: Unit::Cells,
+    }
+}
+
 /// Values that the table of properties doesn't give them say what the initial ones say.
 #[test]
 fn other_values_say_the_initial_ones(rt: HostRuntime) -> Result<(), Fail> {
     let alloc = rt.alloc();
     let mut style = Style::initial(alloc)?;
-    let size = Scalar {
-        value: Frac::whole(-1),
-        unit: Unit::Cells,
-    };
-    style.set(Property::Width, Value::Size(size));
-    style.set(Property::MinWidth, Value::Size(size));
+    style.set(Property::Width, Value::Size(below_zero()));
+    style.set(Property::MinWidth, Value::Size(below_zero()));
     style.set(Property::MarginTop, Value::Whole(10_000));
     style.set(Property::ColumnSpan, Value::Whole(101));
     style.set(Property::Offset, Value::Pair(10_000, 0));
