@@ -3,6 +3,7 @@ pub mod CellLemmas
 pub mod ClusterLemmas
 pub mod GridLemmas
 pub mod HeadLemmas
+pub mod LawLemmas
 pub mod LineLemmas
 pub mod PrintableLemmas
 pub mod StripLemmas
