@@ -1,25 +1,21 @@
 -- What the causes of a run say.
-use Rattle.std.proofs.Common.{◌≡◌, ◌≤◌, ◌+◌, ℕ, zero, suc, Bool, true, false, cond, List, [], ◌∷◌, length, Option, None, Some, refl, ap, sym, ◌∙◌, arith, subst, zero-add, IfSome, Result, Ok, Err}
+use Rattle.std.proofs.Common.{◌≡◌, ℕ, zero, suc, Bool, true, false, cond, List, [], ◌∷◌, Option, None, Some, refl, ap, sym, ◌∙◌, arith, subst, zero-add, IfSome, Ok, Err}
 use Rattle.std.proofs.Math.Dec.{eqb-suc-zero}
-use Rattle.std.specs.List.{AllByRecursion}
 use Rattle.tx_io.specs.declared.files.LoadFault.TheVariants.{Failed, TooLong as PastLimit, NoMemory as NoRoom}
 use Rattle.tx_io.specs.declared.send.Sent.{Sent}
 use Rattle.tx_io.specs.Faults.{raised, Rose}
-use Rattle.tx_io.specs.Loading.{FilesSeen, Load, failed_loads, after_loads}
-use Rattle.tx_io.specs.Sending.{failed_puts}
+use Rattle.tx_io.specs.Loading.{FilesSeen, failed_loads, after_loads}
 use Rattle.tx_io.specs.Sink.{SinkSeen}
 use Rattle.tx_io.specs.Store.{Answer, LoadGives}
-use Rattle.tx_parse.specs.Grammar.{Found}
-use Rattle.tx_parse.specs.Texts.{Report, sheet_of}
+use Rattle.tx_parse.specs.Texts.{sheet_of}
 use Rattle.tx_parse.proofs.lemmas.TextLaws.{text_sheet}
-use Rattle.tx_app.specs.Words.{Checks, asked}
-use Rattle.tx_app.specs.Openings.{Opening, Stops, Opens, Prints, MayWant, ComesTo}
+use Rattle.tx_app.specs.Openings.{Opening, Stops, Opens, Prints, ComesTo}
 use Rattle.tx_app.specs.Loads.{file_limit}
 use Rattle.tx_app.specs.Plan.{Plan, Misuse, Refuse, Read, Open, Print, opening_of, loads_of, AreOfFiles}
-use Rattle.tx_app.specs.Plans.{plan_of, plan_of_words, check_plan, counted}
-use Rattle.tx_app.specs.Course.{Act, Unmade, Updates, Closes, Says, IsRefresh, IsShown, IsPrinted, IsCourse, faults_of}
+use Rattle.tx_app.specs.Plans.{plan_of, plan_of_words, counted}
+use Rattle.tx_app.specs.Course.{Act, Unmade, Updates, Closes, Writes, IsRefresh, IsCourse, faults_of}
 use Rattle.tx_app.specs.Causes.{End, Wanting, Failures, end_of, end_cause, sink_cause, cause_of}
-use Rattle.tx_app.specs.Faults.{CausedBy, IsHeld, Accepts, HoldsSheet, IsComplete, IsNoneOrMemory, SheetsAreAccepted, read_faults, sink_faults}
+use Rattle.tx_app.specs.Faults.{CausedBy, IsHeld, Accepts, IsComplete, IsNoneOrMemory, SheetsAreAccepted, read_faults, sink_faults}
 use Rattle.tx_app.specs.Run.{Runs}
 use Rattle.tx_app.specs.declared.causes.Cause.{Cause}
 use Rattle.tx_app.specs.declared.causes.Cause.TheVariants.{Usage, Refused, ReadFault, SinkFault, NoMemory}
@@ -104,7 +100,7 @@ shown-ends : (refresh : Act) (closed : Sent) (bytes : List ℕ) (before after : 
 shown-ends Unmade closed bytes before after is faults = tt
 shown-ends (Updates update sent) closed bytes before after is faults = faults ∙ ap (raised before) (omega arith)
 shown-ends (Closes sent) closed bytes before after is faults = absurd is
-shown-ends (Says lines sent) closed bytes before after is faults = absurd is
+shown-ends (Writes lines sent) closed bytes before after is faults = absurd is
 
 -- what was opened, and is no stop
 abbrev IsOpen : Opening → Type 0

@@ -12,9 +12,9 @@ use Rattle.tx_app.specs.Scene.{Scene, picture, at_first}
 use Rattle.tx_app.specs.Openings.{Opening, Stops, Opens, Prints, MayWant, ComesTo}
 use Rattle.tx_app.specs.Plan.{Begun, opening_of}
 use Rattle.tx_app.specs.Plans.{plan_of_words}
-use Rattle.tx_app.specs.Course.{Act, Unmade, Updates, Closes, Says, IsRefresh, act_bytes, act_faults, bytes_of, faults_of}
-use Rattle.tx_app.specs.Journal.{act_entries, entries_of}
-use Rattle.tx_app.specs.Causes.{Failures, end_after, end_cause, end_of, cause_of, sink_cause}
+use Rattle.tx_app.specs.Course.{Act, Unmade, Updates, Closes, Writes, IsRefresh, act_bytes, act_faults}
+use Rattle.tx_app.specs.Journal.{act_entries}
+use Rattle.tx_app.specs.Causes.{Failures, end_cause, end_of, sink_cause}
 use Rattle.tx_app.specs.Refreshing.{Refreshes, entry_cause}
 use Rattle.tx_app.specs.Run.{Does, Runs}
 use Rattle.tx_app.specs.declared.causes.Cause.{Cause}
@@ -101,9 +101,9 @@ pub Does-print : (before after : SinkSeen) (lines : List ℕ) (sent : Sent) (cau
     → Sends before after lines sent → cause ≡ sink_cause (failed_puts sent) → Does (Prints lines) before after [] [] cause
 Does-print before after lines sent cause sends is = record {
   actual = Prints lines;
-  acts = Says lines sent ∷ [];
+  acts = Writes lines sent ∷ [];
   comes = record { wanting = false; is = refl; may = tt };
-  course = record { sent = sent; is = refl; says = record { all = sends.all; part = sends.part } };
+  course = record { sent = sent; is = refl; writes = record { all = sends.all; part = sends.part } };
   told = sends.content ∙ ap (append_known before.told) (sym (append-nil (take sent.taken lines)));
   faults = sends.faults ∙ ap (raised before.faults) (omega arith);
   journal = refl;
@@ -179,4 +179,4 @@ pub entry_cause-of : (act : Act) (bytes : List ℕ) (entry : Entry) (closed : Se
 entry_cause-of Unmade bytes entry closed is same = ap (λ e. entry_cause e closed) (head-same same)
 entry_cause-of (Updates update sent) bytes entry closed is same = ap (λ e. entry_cause e closed) (head-same same) ∙ made_cause sent.failed sent.taken closed
 entry_cause-of (Closes sent) bytes entry closed is same = absurd is
-entry_cause-of (Says lines sent) bytes entry closed is same = absurd is
+entry_cause-of (Writes lines sent) bytes entry closed is same = absurd is

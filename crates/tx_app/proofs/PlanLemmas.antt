@@ -1,5 +1,5 @@
 -- How a plan is followed, load by load.
-use Rattle.std.proofs.Common.{◌≡◌, ℕ, ◌+◌, false, List, [], ◌∷◌, ◌++◌, Option, None, Some, Result, Ok, Err, Vec, Bool, true, refl, ap, sym, ◌∙◌, arith, subst, append_assoc, IfSome}
+use Rattle.std.proofs.Common.{◌≡◌, ℕ, ◌+◌, false, List, [], ◌∷◌, ◌++◌, Option, None, Some, Ok, Err, Vec, refl, ap, sym, ◌∙◌, arith, subst, append_assoc, IfSome}
 use Rattle.std.proofs.lemmas.List.{append-nil}
 use Rattle.std.specs.declared.alloc.Global.{Global}
 use Rattle.tx_io.specs.declared.files.LoadFault.TheVariants.{Failed, TooLong as PastLimit, NoMemory as NoRoom}
@@ -12,7 +12,7 @@ use Rattle.tx_app.specs.Plan.{Plan, Misuse, Refuse, Read, Open, Print, opening_o
 use Rattle.tx_app.specs.Plans.{plan_of, plan_of_words}
 use Rattle.tx_app.specs.Words.{Task, asked}
 use Rattle.tx_app.specs.declared.causes.Cause.{Cause}
-use Rattle.tx_app.specs.declared.causes.Cause.TheVariants.{Usage, NoMemory}
+use Rattle.tx_app.specs.declared.causes.Cause.TheVariants.{Usage}
 
 -- ---- loads, one behind another
 

@@ -1,7 +1,7 @@
 -- Why a run didn't end with status 0, and the status.
 use Rattle.std.specs.Prelude.{ℕ, ◌+◌, ◌==◌, List, [], ◌∷◌, Option, Some, None, if◌then◌else◌}
 use Rattle.tx_io.specs.Sending.{failed_puts}
-use Rattle.tx_app.specs.Course.{Act, Unmade, Updates, Closes, Says}
+use Rattle.tx_app.specs.Course.{Act, Unmade, Updates, Closes, Writes}
 use Rattle.tx_app.specs.Openings.{Opening, Stops, Opens, Prints}
 use Rattle.tx_app.specs.declared.causes.Cause.{Cause}
 use Rattle.tx_app.specs.declared.causes.Cause.TheVariants.{Usage, Refused, ReadFault, SinkFault, NoMemory}
@@ -22,7 +22,7 @@ abbrev pub end_after : End → Act → End
 end_after end Unmade = Wanting
 end_after end (Updates update sent) = Failures (failed_puts sent)
 end_after end (Closes sent) = failures_more end (failed_puts sent)
-end_after end (Says lines sent) = failures_more end (failed_puts sent)
+end_after end (Writes lines sent) = failures_more end (failed_puts sent)
 
 abbrev pub end_of : End → List Act → End
 end_of end [] = end

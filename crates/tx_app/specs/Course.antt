@@ -14,14 +14,14 @@ pub data Act : Type 0 where
   -- the closing bytes, and what the sink took of them
   Closes : Sent → Act
   -- printed lines, and what the sink took of them
-  Says : List ℕ → Sent → Act
+  Writes : List ℕ → Sent → Act
 
 -- the bytes on `out`: of each piece as many as the sink took
 abbrev pub act_bytes : Act → List ℕ
 act_bytes Unmade = []
 act_bytes (Updates update sent) = take sent.taken update
 act_bytes (Closes sent) = take sent.taken closing
-act_bytes (Says lines sent) = take sent.taken lines
+act_bytes (Writes lines sent) = take sent.taken lines
 
 abbrev pub bytes_of : List Act → List ℕ
 bytes_of acts = flat_map act_bytes acts
@@ -31,7 +31,7 @@ abbrev pub act_faults : Act → ℕ
 act_faults Unmade = 0
 act_faults (Updates update sent) = failed_puts sent
 act_faults (Closes sent) = failed_puts sent
-act_faults (Says lines sent) = failed_puts sent
+act_faults (Writes lines sent) = failed_puts sent
 
 abbrev pub faults_of : List Act → ℕ
 faults_of [] = 0
@@ -47,7 +47,7 @@ abbrev pub IsRefresh : List ℕ → Act → Type 0
 IsRefresh bytes Unmade = Unit {0}
 IsRefresh bytes (Updates update sent) = (update ≡ bytes) × CanBeSent bytes sent
 IsRefresh bytes (Closes sent) = ⊥
-IsRefresh bytes (Says lines sent) = ⊥
+IsRefresh bytes (Writes lines sent) = ⊥
 
 -- one refresh of a scene on a fresh screen, and then the closing bytes
 pub record IsShown (scene : Scene) (acts : List Act) : Type 0 where
@@ -60,8 +60,8 @@ pub record IsShown (scene : Scene) (acts : List Act) : Type 0 where
 -- lines that are printed
 pub record IsPrinted (lines : List ℕ) (acts : List Act) : Type 0 where
   pub sent : Sent
-  pub is : acts ≡ Says lines sent ∷ []
-  pub says : CanBeSent lines sent
+  pub is : acts ≡ Writes lines sent ∷ []
+  pub writes : CanBeSent lines sent
 
 -- what is done; nothing is sent where the reading stops the run
 abbrev pub IsCourse : Opening → List Act → Type 0

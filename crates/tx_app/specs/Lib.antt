@@ -2,12 +2,12 @@ pub mod Causes
 pub mod Course
 pub mod ErrorLine
 pub mod Faults
+pub mod FormFault
 pub mod Journal
 pub mod Loads
 pub mod Openings
 pub mod Plan
 pub mod Plans
-pub mod Reading
 pub mod Refreshing
 pub mod Report
 pub mod Run

@@ -2,6 +2,7 @@
 #![tactic(auto)]
 
 mod causes;
+mod error_line;
 mod journal;
 pub mod laws;
 mod loads;

@@ -1,13 +1,12 @@
-//! The error line.
-ghost use Rattle.std.specs.Prelude.{◌≡◌, false, decimal};
+//! The report: the error line is sent.
+ghost use Rattle.std.specs.Prelude.{false, decimal};
 ghost use Rattle.tx_app.specs.Report.{Says, IsReported};
-ghost use Rattle.tx_app.specs.ErrorLine.{error_bytes, error_line, kind_bytes, tree_kind_bytes, sheet_kind_bytes, refused_line};
+ghost use Rattle.tx_app.specs.ErrorLine.{error_bytes, error_line, refused_line};
 
 use crate::causes::{Cause, Refusal};
+use crate::error_line::kind_bytes;
 use itoa::Buffer;
 use tx_io::{Sink, send_all};
-use tx_parse::SheetKind;
-use tx_tree::TreeKind;
 
 /// Sends a piece behind others, unless a put of those failed. Answers whether one has failed.
 fn say<E: Sink>(err: &mut E, failed: bool, piece: &[u8]) -> bool
@@ -24,48 +23,6 @@ fn say_number<E: Sink>(err: &mut E, failed: bool, number: u32) -> bool
 {
     let mut buffer = Buffer::new();
     say(err, failed, buffer.format(number).as_bytes())
-}
-
-fn tree_kind_bytes(kind: TreeKind) -> &'static [u8]
-    ensures { result.now ≡ tree_kind_bytes kind }
-{
-    match kind {
-        TreeKind::BadByte => b"BadByte",
-        TreeKind::Expected => b"Expected",
-        TreeKind::BadIndent => b"BadIndent",
-        TreeKind::DuplicateId => b"DuplicateId",
-        TreeKind::TooMany => b"TooMany",
-        TreeKind::TooDeep => b"TooDeep",
-        TreeKind::Leaf => b"Leaf",
-    }
-}
-
-fn sheet_kind_bytes(kind: SheetKind) -> &'static [u8]
-    ensures { result.now ≡ sheet_kind_bytes kind }
-{
-    match kind {
-        SheetKind::Unclosed => b"Unclosed",
-        SheetKind::BadByte => b"BadByte",
-        SheetKind::NumberTooLong => b"NumberTooLong",
-        SheetKind::Expected => b"Expected",
-        SheetKind::UndefinedVariable => b"UndefinedVariable",
-        SheetKind::ValueTooLong => b"ValueTooLong",
-        SheetKind::UnknownProperty => b"UnknownProperty",
-        SheetKind::UnknownPseudo => b"UnknownPseudo",
-        SheetKind::BadValue => b"BadValue",
-        SheetKind::TooManyRules => b"TooManyRules",
-    }
-}
-
-fn kind_bytes(kind: Refusal) -> &'static [u8]
-    ensures { result.now ≡ kind_bytes kind }
-{
-    match kind {
-        Refusal::Tree(kind) => tree_kind_bytes(kind),
-        Refusal::Sheet(kind) => sheet_kind_bytes(kind),
-        Refusal::TooLong => b"TooLong",
-        Refusal::Unbuilt => b"Unbuilt",
-    }
 }
 
 fn say_refused<E: Sink>(err: &mut E, file: &str, line: u32, column: u32, kind: Refusal) -> bool

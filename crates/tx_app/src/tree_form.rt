@@ -5,7 +5,7 @@ ghost use Rattle.tx_cell.specs.Plain.{is_printable};
 ghost use Rattle.tx_read.specs.Answer.{Gives};
 ghost use Rattle.tx_tree.specs.Row.{plain};
 ghost use Rattle.tx_tree_file.specs.TreeReading.{tree_of};
-ghost use Rattle.tx_app.specs.Reading.{told, unbuilt_at};
+ghost use Rattle.tx_app.specs.FormFault.{told, unbuilt_at};
 ghost use Rattle.tx_app.specs.TreeForm.{rows_or_fault, texts_of, unbuilt, below_screen, statics, static_text, is_bare, is_static, is_text_byte, is_empty};
 
 use crate::causes::Refusal;

@@ -1,6 +1,6 @@
 use Rattle.std.proofs.Common.{sym, ap, subst, ◌∙◌}
 use Rattle.tx_read.specs.Answer.{Gives}
-use Rattle.tx_app.specs.Reading.{told}
+use Rattle.tx_app.specs.FormFault.{told}
 use Rattle.tx_app.specs.TreeForm.{unbuilt, texts_in, below_screen, texts_of}
 use Rattle.tx_app.proofs.FormLemmas.{below_screen_plain}
 use Rattle.tx_app.proofs.tree_form.read_texts.Goals as goal
