@@ -7,6 +7,7 @@ BEGIN {
     document = ENVIRON["EXPLAIN_DOCUMENT"]
     line += 0
     column += 0
+    # The bytes that only go on in a character.
     for (i = 128; i < 192; i++) inner = inner sprintf("%c", i)
     read_document()
     if (!(kind in comes)) exit
@@ -37,6 +38,7 @@ function read_document(    row, cells, n, head, place) {
         if (head == "kind" && !(cells[1] in comes)) { comes[cells[1]] = cells[2]; instead[cells[1]] = cells[n] }
         if (head == "case") { case_of[cells[1]] = cells[n] }
         if (head == "property") { properties++; names_of[properties] = cells[1]; takes[properties] = cells[2] }
+        if (head == "place") may_stand[cells[1]] = cells[2]
         if (head == "value") { values++; value_of[values] = cells[1]; meaning[values] = cells[2] }
         if (head == "pseudo-class") pseudos = pseudos (pseudos == "" ? "" : ", ") cells[1]
         if (head == "variable") variables = variables (variables == "" ? "" : ", ") cells[1]
@@ -70,12 +72,16 @@ function show_place(    row, from, shown, under, i, c, n) {
     while (n < length(row) && index(inner, substr(row, n + 1, 1)) > 0) n++
     for (i = from; i <= n; i++) {
         c = substr(row, i, 1)
-        shown = shown (c ~ /[\001-\010\013-\037\177]/ ? "?" : c)
+        if (i > from && is_control_pair(row, i - 1)) continue
+        shown = shown (c ~ /[\001-\010\013-\037\177]/ || is_control_pair(row, i) ? "?" : c)
         if (i < at && index(inner, c) == 0) under = under (c == "\t" ? "\t" : (c ~ /[\343-\355\360]/ ? "  " : " "))
     }
     printf "%6d | %s%s%s\n", line, (from > 1 ? ".. " : ""), shown, (n < length(row) ? " .." : "")
     printf "       | %s%s^\n", (from > 1 ? "   " : ""), under
 }
+
+# Whether a control character of two bytes begins here, which a terminal may take for a command.
+function is_control_pair(row, i) { return substr(row, i, 2) ~ /^\302[\200-\237]/ }
 
 function say_instead(words) { if (words != "") printf "write instead: %s\n", words }
 
@@ -94,7 +100,8 @@ function explain_sheet(    name) {
     else if (kind == "UnknownProperty" && next_mark == "{") name = "a rule begins inside a rule"
     else if (kind == "UnknownPseudo" && next_mark == ";") name = "a declaration stands outside a rule"
     else if (kind == "BadByte" && substr(text[line], at, 3) == "\357\273\277" && line == 1 && at == 1) name = "the file begins with a byte order mark"
-    else if (kind == "BadByte" && substr(text[line], at, 1) ~ /[\302-\364]/) name = "a character outside ASCII stands outside a comment"
+    else if (kind == "BadByte" && substr(text[line], at, 1) !~ /[\001-\177]/ && !is_character(substr(text[line], at, 4))) name = "a byte isn't UTF-8"
+    else if (kind == "BadByte" && substr(text[line], at, 1) !~ /[\001-\177]/) name = "a character outside ASCII stands outside a comment"
     if (name in case_of) {
         say_case(name)
         if (name == "a rule begins inside a rule") printf "the rule above begins in line %d\n", opened
@@ -102,10 +109,26 @@ function explain_sheet(    name) {
         return
     }
     if (kind == "BadValue") { explain_value(); return }
+    if (kind == "Expected") { say_place(); return }
     if (!say_sign(token)) say_instead(instead[kind])
     if (kind == "UnknownProperty") say_properties()
     if (kind == "UnknownPseudo") printf "the pseudo-classes: %s\n", pseudos
     if (kind == "UndefinedVariable") printf "the variables of the theme: %s\n", variables
+}
+
+# Whether these bytes begin with a character of UTF-8 outside ASCII.
+function is_character(bytes) {
+    return bytes ~ /^([\302-\337][\200-\277]|\340[\240-\277][\200-\277]|[\341-\354\356\357][\200-\277][\200-\277]|\355[\200-\237][\200-\277]|\360[\220-\277][\200-\277][\200-\277]|[\361-\363][\200-\277][\200-\277][\200-\277]|\364[\200-\217][\200-\277][\200-\277])/
+}
+
+# Says what may stand in the part of the sheet in which the place is.
+function say_place(    place) {
+    if (part == "outside") place = "between rules"
+    else if (part == "property") place = "after a property"
+    else if (part == "definition") place = "in a definition"
+    else place = "in " (part == "selector" ? "a " : (part == "rule" ? "a " : "")) part
+    printf "here: %s\n", place
+    say_instead(may_stand[place])
 }
 
 # Reads the sheet up to the place: whether it stands in a rule, in which part of it, and the property.
@@ -306,9 +329,9 @@ function case_of_line(row,    bare, word, parts, n, i, seen) {
 }
 
 function case_of_parts(bare, word,    outside, parts, n, i, seen, quoted) {
-    quoted = bare
+    quoted = ""
     if (match(bare, /"([^"\\]|\\.)*"/)) quoted = substr(bare, RSTART, RLENGTH)
-    else quoted = ""
+    else if (bare ~ /"/) return "a text has no end"
     if (quoted ~ /\\[^"\\n]/) return "an escape that there isn't"
     outside = bare
     gsub(/"([^"\\]|\\.)*"/, "\"\"", outside)
