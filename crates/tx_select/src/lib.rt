@@ -1,6 +1,8 @@
 //! Selectors of TCSS, the stylesheets of Textual (<https://textual.textualize.io/guide/CSS/>).
 //!
 //! [`read_selector`] reads a text, and [`selector_at`] a selector that stands among other tokens.
+//! [`matches`] says whether a selector matches a row of a tree, and [`query`] and [`query_one`] find
+//! the rows that it matches.
 #![tactic(auto)]
 
 mod climb;
