@@ -7,9 +7,9 @@ use Rattle.std.proofs.lemmas.List.{length-replicate}
 use Rattle.std.proofs.Math.ListN.{replicate-append-replicate}
 use Rattle.std.proofs.lemmas.List.Elements.{All-nil, All-cons, All-head, All-tail, All-replicate}
 use Rattle.std.specs.List.{All, slice_get}
-use Rattle.std.specs.Prelude.{Option, Some, nat_lt, min, cond}
+use Rattle.std.specs.Prelude.{Option, Some, unwrap_or, nat_lt}
 use Rattle.tx_cell.specs.Cell.{CellValue, IsCell, IsOfItsText, tail_of}
-use Rattle.tx_cell.specs.Grid.{GridValue, IsGrid, IsArray, IsPutOn, rows_of, changed_at, mended}
+use Rattle.tx_cell.specs.Grid.{GridValue, IsGrid, IsArray, rows_of, changed_at}
 use Rattle.tx_geom.specs.declared.places.Size.{Size}
 use Rattle.tx_cell.specs.Strip.{IsWellFormed, laid, with_tail, cut_end, cut_front, joined}
 use Rattle.tx_cell.proofs.StripLemmas.{IsWellFormed-laid, length-laid, length-cut_end}
@@ -167,119 +167,45 @@ IsArray-filled size fill known narrow = record {
       (All-replicate IsWellFormed size.height (replicate size.width fill) (IsWellFormed-replicate size.width fill (narrow_own fill fill.tail refl known narrow) (ap (λ w. nat_lt 1 w) narrow)));
 }
 
--- ---- a cell that is taken back
+-- ---- a row of another grid
 
--- all rows together are the cells
-joined-rows_of : (width height : ℕ) (cells : List CellValue) → length cells ≡ width * height → joined (rows_of width height cells) ≡ cells
-joined-rows_of width zero [] area = refl
-joined-rows_of width zero (cell ∷ cells) area = absurd (omega arith)
-joined-rows_of width (suc height) cells area =
-    ap (λ rest. take width cells ++ rest) (joined-rows_of width height (drop width cells) (length-drop width cells ∙ omega arith))
-    ∙ take-append-drop width cells
+module _ (size : Size) (cells from : List CellValue) (y : ℕ) (kept : IsArray size cells) (kept_from : IsArray size from) (inside : y < size.height) where
+  abbrev pub row_from : List CellValue
+  row_from = take size.width (drop (y * size.width) from)
 
--- the first cells before a cut stay
-take-cut_end : (n : ℕ) (cells more : List CellValue) → n < length cells → take n (cut_end cells ++ more) ≡ take n cells
-take-cut_end n [] more inside = absurd (omega arith)
-take-cut_end zero (cell ∷ cells) more inside = refl
-take-cut_end (suc n) (cell ∷ []) more inside = absurd (omega arith)
-take-cut_end (suc n) (cell ∷ next ∷ cells) more inside = ap (λ rest. cell ∷ rest) (take-cut_end n (next ∷ cells) more (omega arith))
+  row_inside_from : y * size.width + size.width ≤ length from
+  row_inside_from = subst (λ n. y * size.width + size.width ≤ n) (sym kept_from.area) (row_inside size.width size.height y inside)
 
-take-laid : (x : ℕ) (cell : CellValue) (cells row : List CellValue) → x < length row → take (x - 1) (laid x (cell ∷ cells) row) ≡ take (x - 1) row
-take-laid zero cell cells row inside = refl
-take-laid (suc x) cell cells row inside =
-    let less : suc x - 1 ≡ x = omega arith in
-    rw less (take-cut_end x (take (suc x) row) _ (omega (arith, length-take-le (suc x) row (omega arith))) ∙ take-take x (suc x) row (omega arith))
+  row_inside_here : y * size.width + size.width ≤ length cells
+  row_inside_here = subst (λ n. y * size.width + size.width ≤ n) (sym kept.area) (row_inside size.width size.height y inside)
 
--- the cells behind the first one behind a cut stay
-drop-cut_front : (n : ℕ) (cells : List CellValue) → 0 < n → drop n (cut_front cells) ≡ drop n cells
-drop-cut_front zero cells some = absurd (omega arith)
-drop-cut_front (suc n) [] some = refl
-drop-cut_front (suc n) (cell ∷ cells) some = refl
+  from_length : length row_from ≡ size.width
+  from_length = length-take-le size.width _ (rw (length-drop (y * size.width) from) (omega (arith, row_inside_from)))
 
-drop-laid : (x n : ℕ) (cell : CellValue) (cells row : List CellValue) → x + length (cell ∷ cells) ≤ length row → 0 < n
-    → drop (x + length (cell ∷ cells) + n) (laid x (cell ∷ cells) row) ≡ drop (x + length (cell ∷ cells) + n) row
-drop-laid x n cell cells row inside some =
-    let new = cell ∷ cells in
-    let front = cut_end (take x row) in
-    let long : length (front ++ new) ≡ x + length new =
-    length-append front new ∙ ap (λ l. l + length new) (length-cut_end (take x row) ∙ length-take-le x row (omega arith)) in
-    ap (drop (x + length new + n)) (sym (append_assoc front new (cut_front (drop (x + length new) row))))
-    ∙ sym (drop-drop n (x + length new) ((front ++ new) ++ cut_front (drop (x + length new) row)))
-    ∙ ap (drop n) (drop_at (front ++ new) (cut_front (drop (x + length new) row)) (x + length new) long)
-    ∙ drop-cut_front n (drop (x + length new) row) some
-    ∙ drop-drop n (x + length new) row
+  -- the row that is got
+  abbrev pub got : List CellValue → List CellValue
+  got row = unwrap_or (slice_get (rows_of size.width size.height from) y) row
 
-drop-past : (n : ℕ) (row : List CellValue) → length row ≤ n → drop n row ≡ []
-drop-past n row past = nil_from_length (drop n row) (omega (arith, length-drop n row))
+  got_is : (row : List CellValue) → got row ≡ row_from
+  got_is row = ap (λ found. unwrap_or found row) (slice_get-rows_of size.width size.height y from inside)
 
-mended-parts : (from to : ℕ) (row before : List CellValue) → from ≤ to → take from row ≡ take from before → drop to row ≡ drop to before
-    → take from row ++ (take (to - from) (drop from before) ++ drop to row) ≡ before
-mended-parts from to row before order front back =
-    let past : from + (to - from) ≡ to = omega arith in
-    ap₂ (λ a b. a ++ (take (to - from) (drop from before) ++ b)) front (back ∙ ap (λ n. drop n before) (sym past) ∙ sym (drop-drop (to - from) from before))
-    ∙ ap (λ b. take from before ++ b) (take-append-drop (to - from) (drop from before))
-    ∙ take-append-drop from before
+  -- the rows are the old ones but that one
+  pub rows_of-taken : rows_of size.width size.height (take (y * size.width) cells ++ (row_from ++ drop (y * size.width + size.width) cells))
+      ≡ changed_at y got (rows_of size.width size.height cells)
+  rows_of-taken = rows_of-changed size.width size.height y cells row_from got inside kept.area from_length (got_is _)
 
-mended-back : (x : ℕ) (cell : CellValue) (cells row : List CellValue) (longer : Bool) → nat_lt (x + 3) (length row) ≡ longer
-    → length (cell ∷ cells) ≤ 2 → x + length (cell ∷ cells) ≤ length row
-    → drop (min (length row) (x + 3)) (laid x (cell ∷ cells) row) ≡ drop (min (length row) (x + 3)) row
-mended-back x cell cells row true is few inside =
-    let n = 3 - length (cell ∷ cells) in
-    let here : min (length row) (x + 3) ≡ x + length (cell ∷ cells) + n = omega (arith, ltb-true) in
-    rw here (drop-laid x n cell cells row inside (omega arith))
-mended-back x cell cells row false is few inside =
-    let short : length row ≤ x + 3 = omega (arith, ltb-false) in
-    let here : min (length row) (x + 3) ≡ length row = omega arith in
-    rw here (drop-past (length row) (laid x (cell ∷ cells) row) (omega (arith, length-laid x (cell ∷ cells) row inside)) ∙ sym (drop-past (length row) row (omega arith)))
-
-mended-laid : (x : ℕ) (cells row : List CellValue) → 0 < length cells → length cells ≤ 2 → x + length cells ≤ length row → mended x (laid x cells row) row ≡ row
-mended-laid x [] row some few inside = absurd (omega arith)
-mended-laid x (cell ∷ cells) row some few inside =
-    let new = cell ∷ cells in
-    let same : length (laid x new row) ≡ length row = length-laid x new row inside in
-    rw same (mended-parts (x - 1) (min (length row) (x + 3)) (laid x new row) row (omega arith) (take-laid x cell cells row (omega arith))
-    (mended-back x cell cells row (nat_lt (x + 3) (length row)) refl few inside))
-
-few-with_tail : (cell : CellValue) → (0 < length (with_tail cell)) × (length (with_tail cell) ≤ 2)
-few-with_tail cell = elim (nat_lt 1 cell.width) as (λ b. (0 < length (cond b (cell ∷ tail_of cell.pen ∷ []) (cell ∷ []))) × (length (cond b (cell ∷ tail_of cell.pen ∷ []) (cell ∷ [])) ≤ 2))
-    [ true ↦ (omega arith, omega arith) | false ↦ (omega arith, omega arith) ]
-
--- the cells are got back from a grid in which a cell was put
-mended-all : (width height y x : ℕ) (before now new : List CellValue) → y < height → length before ≡ width * height → length now ≡ width * height
-    → 0 < length new → length new ≤ 2 → x + length new ≤ width
-    → rows_of width height now ≡ changed_at y (laid x new) (rows_of width height before)
-    → take (y * width) now ++ (mended x (take width (drop (y * width) now)) (take width (drop (y * width) before)) ++ drop (y * width + width) now) ≡ before
-mended-all width height y x before now new inside area area_now some few fits rows =
-    let start = y * width in
-    let row = take width (drop start before) in
-    let end : start + width ≤ length before = subst (λ n. start + width ≤ n) (sym area) (row_inside width height y inside) in
-    let row_long : length row ≡ width = length-take-le width (drop start before) (rw (length-drop start before) (omega arith)) in
-    let laid_row = laid x new row in
-    let laid_long : length laid_row ≡ width = length-laid x new row (rw row_long fits) ∙ row_long in
-    let all = take start before ++ (laid_row ++ drop (start + width) before) in
-    let start_long : length (take start before) ≡ start = length-take-le start before (omega arith) in
-    let all_long : length all ≡ width * height = length-append (take start before) _ ∙ ap₂ ◌+◌ start_long (length-append laid_row _ ∙ ap₂ ◌+◌ laid_long (length-drop (start + width) before)) ∙ past_back (length before) start width end ∙ area in
-    let same_rows : rows_of width height now ≡ rows_of width height all = rows ∙ sym (rows_of-changed width height y before laid_row (laid x new) inside area laid_long refl) in
-    let same : now ≡ all = sym (joined-rows_of width height now area_now) ∙ ap joined same_rows ∙ joined-rows_of width height all all_long in
-    let front : take start now ≡ take start before = ap (take start) same ∙ take_at (take start before) _ start start_long in
-    let rest : drop start now ≡ laid_row ++ drop (start + width) before = ap (drop start) same ∙ drop_at (take start before) _ start start_long in
-    let middle : take width (drop start now) ≡ laid_row = ap (take width) rest ∙ take_at laid_row _ width laid_long in
-    let back : drop (start + width) now ≡ drop width (drop start before) =
-    sym (drop-drop width start now) ∙ ap (drop width) rest ∙ drop_at laid_row _ width laid_long ∙ sym (drop-drop width start before) in
-    rw (front, middle, back, mended-laid x new row some few (rw row_long fits))
-    (ap (λ l. take start before ++ l) (take-append-drop width (drop start before)) ∙ take-append-drop start before)
-
-pub taken_back : (size size_now : Size) (before now : List CellValue) (x y : ℕ) → IsArray size before → IsArray size_now now → y < size.height
-    → IsPutOn (record { size = size; rows = rows_of size.width size.height before }) (record { size = size_now; rows = rows_of size_now.width size_now.height now }) x y
-    → (size_now ≡ size) × (take (y * size.width) now ++ (mended x (take size.width (drop (y * size.width) now)) (take size.width (drop (y * size.width) before)) ++ drop (y * size.width + size.width) now) ≡ before)
-taken_back size size_now before now x y kept kept_now inside put =
-    let same : size_now ≡ size = ap (λ (g : GridValue). g.size) put.put in
-    let few = few-with_tail put.cell in (
-      same,
-      mended-all size.width size.height y x before now (with_tail put.cell) inside kept.area
-          (kept_now.area ∙ ap (λ (s : Size). s.width * s.height) same) few.0 few.1 put.inside
-          (ap (λ (s : Size). rows_of s.width s.height now) (sym same) ∙ ap (λ (g : GridValue). g.rows) put.put),
-    )
+  -- the cells stay those of a grid
+  pub IsArray-taken : IsArray size (take (y * size.width) cells ++ (row_from ++ drop (y * size.width + size.width) cells))
+  IsArray-taken = record {
+    area =
+        length-append (take (y * size.width) cells) _
+        ∙ ap₂ ◌+◌ (length-take-le (y * size.width) cells (omega (arith, row_inside_here)))
+        (length-append row_from _ ∙ ap₂ ◌+◌ from_length (length-drop (y * size.width + size.width) cells))
+        ∙ past_back (length cells) (y * size.width) size.width row_inside_here
+        ∙ kept.area;
+    formed = rw rows_of-taken (All-changed_at IsWellFormed got y _ _ (slice_get-rows_of size.width size.height y cells inside)
+        (subst IsWellFormed (sym (got_is _)) (All-row y _ _ (slice_get-rows_of size.width size.height y from inside) kept_from.formed)) kept.formed);
+  }
 
 -- the grid of these cells
 abbrev pub grid_of : Size → List CellValue → GridValue

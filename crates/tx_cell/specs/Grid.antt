@@ -1,5 +1,5 @@
 -- What contracts see of a grid.
-use Rattle.std.specs.Prelude.{◌≡◌, ℕ, ◌+◌, ◌-◌, ◌*◌, ◌≤◌, zero, suc, min, List, [], ◌∷◌, ◌++◌, length, take, drop, slice_get, Option, replicate, All}
+use Rattle.std.specs.Prelude.{◌≡◌, ℕ, ◌*◌, zero, suc, List, [], ◌∷◌, length, take, drop, slice_get, Option, unwrap_or, replicate, All}
 use Rattle.std.specs.Option.{option_and_then}
 use Rattle.tx_geom.specs.declared.places.Size.{Size}
 use Rattle.tx_cell.specs.Cell.{CellValue}
@@ -43,15 +43,9 @@ with_laid grid x y cells = record grid { rows = changed_at y (laid x cells) grid
 abbrev pub with_put : GridValue → ℕ → ℕ → CellValue → GridValue
 with_put grid x y cell = with_laid grid x y (with_tail cell)
 
--- the grid shows what another one does but for a cell that was put inside a row
-pub record IsPutOn (before now : GridValue) (x y : ℕ) : Type 0 where
-  pub cell : CellValue
-  pub inside : x + length (with_tail cell) ≤ before.size.width
-  pub put : now ≡ with_put before x y cell
-
--- the row whose cells from the column before this one up to the third one behind it are those of another row
-abbrev pub mended : ℕ → List CellValue → List CellValue → List CellValue
-mended x row before = take (x - 1) row ++ (take (min (length row) (x + 3) - (x - 1)) (drop (x - 1) before) ++ drop (min (length row) (x + 3)) row)
+-- the grid in which a row is that of another grid
+abbrev pub with_row_of : GridValue → GridValue → ℕ → GridValue
+with_row_of grid from y = record grid { rows = changed_at y (λ row. unwrap_or (slice_get from.rows y) row) grid.rows }
 
 -- the cells of a grid, one row after another: as many as its size says, and each row well formed
 pub record IsArray (size : Size) (cells : List CellValue) : Type 0 where

@@ -1,7 +1,7 @@
 //! Grids: rows of cells, one below the other.
 
 ghost use Rattle.std.specs.Prelude.{◌≡◌, ◌+◌, ◌<◌, ◌≤◌, ◌++◌, false, length, take, drop, slice_get, Some, IfOk};
-ghost use Rattle.tx_cell.specs.Grid.{IsGrid, IsPutOn, filled, cell_at, with_laid, with_put, mended};
+ghost use Rattle.tx_cell.specs.Grid.{IsGrid, filled, cell_at, with_laid, with_put, with_row_of};
 ghost use Rattle.tx_cell.specs.Strip.{IsWellFormed, laid};
 
 use crate::cut::{blank_tail_front, blank_wide_end};
@@ -120,16 +120,15 @@ impl Grid {
         self.cells.fill(fill);
     }
 
-    /// Takes a cell back that was put in column `x` of row `y`: all cells are those of the grid
-    /// `before` it again.
-    pub fn take_back(&mut self, before: &Grid, x: u32, y: u32)
-        requires row { y < before.now.size.height }
-        requires put { IsPutOn before.now self.old x y }
-        ensures grid { self.new ≡ before.now }
+    /// Makes the cells of row `y` those of the same row of another grid of the same size.
+    pub fn take_row(&mut self, from: &Grid, y: u32)
+        requires same_size { self.old.size ≡ from.now.size }
+        requires row { y < self.old.size.height }
+        ensures grid { self.new ≡ with_row_of self.old from.now y }
     {
-        let width = before.size.width as usize;
+        let width = self.size.width as usize;
         let start = y as usize * width;
-        mend_at(&mut self.cells, &before.cells, start, width, x as usize);
+        copy_at(&mut self.cells, &from.cells, start, width);
     }
 
     fn lay_cells(&mut self, x: u32, y: u32, cells: &[Cell])
@@ -153,30 +152,13 @@ fn lay_at(all: &mut [Cell], start: usize, width: usize, x: usize, cells: &[Cell]
     lay_in(&mut all[start..start + width], x, cells);
 }
 
-// Mends the row of so many cells that begins at `start` round column `x`.
-fn mend_at(all: &mut [Cell], before: &[Cell], start: usize, width: usize, x: usize)
+// Makes the row of so many cells that begins at `start` the one that begins there elsewhere.
+fn copy_at(all: &mut [Cell], from: &[Cell], start: usize, width: usize)
     requires row { start + width ≤ length all.old }
-    requires row_before { start + width ≤ length before.now }
-    requires column { x < width }
-    ensures row { all.new ≡ take start all.old ++ (mended x (take width (drop start all.old)) (take width (drop start before.now)) ++ drop (start + width) all.old) }
+    requires row_from { start + width ≤ length from.now }
+    ensures row { all.new ≡ take start all.old ++ (take width (drop start from.now) ++ drop (start + width) all.old) }
 {
-    mend(
-        &mut all[start..start + width],
-        &before[start..start + width],
-        x,
-    );
-}
-
-// Takes the cells round column `x` from another row. A wide cell and the halves beside it are
-// four columns.
-fn mend(row: &mut [Cell], before: &[Cell], x: usize)
-    requires same { length row.old ≡ length before.now }
-    requires column { x < length row.old }
-    ensures row { row.new ≡ mended x row.old before.now }
-{
-    let from = x.saturating_sub(1);
-    let to = row.len().min(x + 3);
-    row[from..to].copy_from_slice(&before[from..to]);
+    all[start..start + width].copy_from_slice(&from[start..start + width]);
 }
 
 // Lays cells over a row from column `x` on.

@@ -431,49 +431,23 @@ fn strips_are_laid_over_rows(rt: HostRuntime) -> Result<(), Fail> {
     Ok(())
 }
 
-/// Puts a cell on a grid that is the one before it, and takes it back.
-fn put_and_take_back(grid: &mut Grid, before: &Grid, x: u32, cell: Cell)
-    requires same { grid.old ≡ before.now }
-    requires row { 0 < before.now.size.height }
-    requires head { cell.tail ≡ false }
-    requires some { 1 ≤ cell.width }
-    requires columns { x + cell.width ≤ before.now.size.width }
-    ensures back { grid.new ≡ before.now }
-{
-    grid.put(x, 0, cell);
-    grid.take_back(before, x, 0);
-}
-
-fn check_taken_back(
-    rt: &impl Abort,
-    alloc: Global,
-    size: Size,
-    x: u32,
-    text: &str,
-) -> Result<(), AllocError> {
-    let mut before = Grid::open(alloc, size, Cell::blank(pen(1)))?;
-    put(rt, &mut before, 0, "\u{4E16}", 2);
-    put(rt, &mut before, 2, "\u{4E16}", 3);
-    let mut grid = Grid::open(alloc, size, Cell::blank(pen(4)))?;
-    assert!(rt; before.size() == size && grid.size() == size && size.height > 0);
-    grid.take_over(&before);
-    if let Some(cell) = Cell::of(text, pen(5)) {
-        let columns = x as u64 + cell.width() as u64;
-        assert!(rt; columns <= size.width as u64);
-        put_and_take_back(&mut grid, &before, x, cell);
-    }
-    check_row(rt, alloc, &grid, 0, "\u{4E16}|.|\u{4E16}|.| |")
-}
-
 #[test]
-fn a_cell_is_taken_back(rt: HostRuntime) -> Result<(), Fail> {
+fn a_row_is_taken_from_another_grid(rt: HostRuntime) -> Result<(), Fail> {
     let size = Size {
-        width: 5,
+        width: 3,
         height: 2,
     };
-    for (x, text) in [(1, "a"), (1, "\u{4E16}"), (3, "\u{4E16}"), (4, "a")] {
-        check_taken_back(&rt, rt.alloc(), size, x, text)?;
-    }
+    let mut from = Grid::open(rt.alloc(), size, Cell::blank(pen(1)))?;
+    put(&rt, &mut from, 0, "\u{4E16}", 2);
+    let mut grid = Grid::open(rt.alloc(), size, Cell::blank(pen(4)))?;
+    put(&rt, &mut grid, 1, "\u{4E16}", 3);
+    assert!(rt; from.size() == size && grid.size() == size);
+    grid.take_row(&from, 1);
+    check_row(&rt, rt.alloc(), &grid, 0, " |\u{4E16}|.|")?;
+    assert!(rt; grid.row(1) == from.row(1));
+    grid.take_row(&from, 0);
+    check_row(&rt, rt.alloc(), &grid, 0, "\u{4E16}|.| |")?;
+    assert!(rt; grid.row(0) == from.row(0));
     Ok(())
 }
 

@@ -1,12 +1,14 @@
 -- Held cells that are put.
-use Rattle.std.proofs.Common.{◌≡◌, ◌≤◌, ◌<◌, ◌+◌, ℕ, [], Bool, true, false, refl, arith, ap, sym, ◌∙◌, Option, Some, None, cond, nat_le}
+use Rattle.std.proofs.Common.{◌≡◌, ◌≤◌, ◌<◌, ◌+◌, ℕ, zero, suc, List, [], ◌∷◌, Bool, true, false, refl, arith, ap, sym, ◌∙◌, Option, Some, None, cond, nat_le}
 use Rattle.std.proofs.lemmas.Bool.{leb-true}
 use Rattle.tx_cell.proofs.lemmas.MadeCells.{cell_of-nothing}
 use Rattle.tx_cell.specs.Cell.{CellValue, blank, cell_of}
 use Rattle.tx_cell.specs.declared.pen.Pen.{Pen}
 use Rattle.tx_geom.specs.declared.places.Size.{Size}
 use Rattle.tx_cell.specs.Pen.{white_on_black}
-use Rattle.tx_cell.specs.Grid.{GridValue, filled}
+use Rattle.std.specs.Prelude.{slice_get, unwrap_or}
+use Rattle.tx_cell.specs.Grid.{GridValue, changed_at, filled, with_put, with_row_of}
+use Rattle.tx_cell.specs.Strip.{laid, with_tail}
 use Rattle.tx_term.specs.Canvas.{CanvasValue, IsInside, IsKept, fitting, held_cell, drawn, columns_of, put_held, shown_grid, erased, opened_canvas}
 
 pub size-drawn : (grid : GridValue) (column row : ℕ) (cell : Option CellValue) → (drawn grid column row cell).size ≡ grid.size
@@ -70,3 +72,20 @@ IsKept-at shown canvas row column nothing below beside kept = record {
   inside = record { row = below; column = beside };
   shown_is = kept.shown_is ∙ shown_grid-nothing canvas nothing ∙ sym (shown_grid-nothing (record canvas { row = row; column = column }) nothing);
 }
+
+-- ---- a cell that is taken back
+
+changed_back : (y : ℕ) (change : List CellValue → List CellValue) (rows : List (List CellValue))
+    → changed_at y (λ row. unwrap_or (slice_get rows y) row) (changed_at y change rows) ≡ rows
+changed_back y change [] = refl
+changed_back zero change (row ∷ rows) = refl
+changed_back (suc y) change (row ∷ rows) = ap (λ more. row ∷ more) (changed_back y change rows)
+
+row_stays : (y : ℕ) (rows : List (List CellValue)) → changed_at y (λ row. unwrap_or (slice_get rows y) row) rows ≡ rows
+row_stays y [] = refl
+row_stays zero (row ∷ rows) = refl
+row_stays (suc y) (row ∷ rows) = ap (λ more. row ∷ more) (row_stays y rows)
+
+pub drawn-back : (grid : GridValue) (column row : ℕ) (cell : Option CellValue) → with_row_of (drawn grid column row cell) grid row ≡ grid
+drawn-back grid column row None = ap (λ rows. record grid { rows = rows }) (row_stays row grid.rows)
+drawn-back grid column row (Some cell) = ap (λ rows. record grid { rows = rows }) (changed_back row (laid column (with_tail cell)) grid.rows)

@@ -1,11 +1,11 @@
-ghost use Rattle.std.specs.Prelude.{◌<◌};
+ghost use Rattle.std.specs.Prelude.{◌<◌, None};
 
-use crate::{CLOSING, Terminal, present};
+use crate::{CLOSING, Terminal, closing_bytes, present};
 use std::alloc::AllocError;
 use std::test::Fail;
 use tx_cell::{Cell, Grid, Pen, TextStyle};
 use tx_geom::{Rgb, Size};
-use tx_io::{MemorySink, Sent, Sink, send_all};
+use tx_io::{Failed, MemorySink, Sent, Sink, send_all};
 
 /// The whole update of a blank grid, four columns wide and two rows high.
 const WHOLE: &[u8; 78] =
@@ -91,10 +91,58 @@ fn a_whole_update_begins_anew(rt: HostRuntime) -> Result<(), Fail> {
         assert!(rt; show_the_same(&shown, &next));
         terminal.feed(sink.taken());
         assert!(rt; show_the_same(terminal.grid(), &next));
-        send_all(&mut sink, CLOSING);
+        assert!(rt; terminal.alternate() && !terminal.cursor_shown());
+        assert_eq!(rt; CLOSING, closing_bytes());
+        send_all(&mut sink, closing_bytes());
+        terminal.feed(closing_bytes());
+        assert!(rt; terminal.cursor_shown() && !terminal.alternate());
         assert_eq!(rt; sink.taken().len(), 97);
         assert!(rt; sink.taken().ends_with(b"\x18\x1b[0m\x1b[?25h\x1b[?1049l"));
     }
+    Ok(())
+}
+
+/// A sink that counts its puts, and the bytes that they bring.
+#[derive(Drop)]
+struct PutCounter {
+    puts: u64,
+    bytes: u64,
+}
+
+impl Sink for PutCounter {
+    ghost seen = { λ s. record { told = None; faults = 0 } };
+
+    fn put(&mut self, piece: &[u8]) -> Result<usize, Failed> {
+        self.puts = self.puts.saturating_add(1);
+        self.bytes = self.bytes.saturating_add(piece.len() as u64);
+        Ok(piece.len())
+    }
+}
+
+#[test]
+fn one_changed_cell_is_one_put(rt: HostRuntime) -> Result<(), Fail> {
+    let dark = pen(224, 18);
+    let mut shown = blank_grid(&rt, 1024, 512, dark)?;
+    let mut next = blank_grid(&rt, 1024, 512, dark)?;
+    let cases: [(u32, u32, u64); 4] = [(0, 0, 42), (9, 8, 43), (998, 510, 46), (1023, 511, 47)];
+    for (x, y, bytes) in cases {
+        let mut sink = PutCounter { puts: 0, bytes: 0 };
+        assert!(rt; put(&mut next, x, y, "a", dark).is_some());
+        let sent = presented(&mut shown, &next, false, &mut sink);
+        assert_eq!(rt;
+            sent,
+            Some(Sent {
+                taken: bytes,
+                failed: false
+            })
+        );
+        assert_eq!(rt; sink.puts, 1);
+        assert_eq!(rt; sink.bytes, bytes);
+    }
+    // Where nothing has changed there is no put.
+    let mut sink = PutCounter { puts: 0, bytes: 0 };
+    presented(&mut shown, &next, false, &mut sink);
+    assert_eq!(rt; sink.puts, 0);
     Ok(())
 }
 

@@ -175,14 +175,13 @@ fn draw(grid: &mut Grid, column: u32, row: u32, cell: Option<Cell>) -> u32
     }
 }
 
-/// Takes a cell back, if there is one.
+/// Takes a cell back, if there is one: its row is that of the grid before it again.
 fn take_back(grid: &mut Grid, before: &Grid, column: u32, row: u32, cell: Option<Cell>)
     requires row { row < before.now.size.height }
-    requires cell { ForSome cell (IsPutAt before.now column) }
     requires drawn { grid.old ≡ drawn before.now column row cell }
     ensures { grid.new ≡ before.now }
 {
-    if let Some(_) = cell {
-        grid.take_back(before, column, row);
+    if cell.is_some() {
+        grid.take_row(before, row);
     }
 }

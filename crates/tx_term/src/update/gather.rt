@@ -40,6 +40,7 @@ impl Gather {
         requires counted { handed self.old + length piece.now < 2 ^ 64 }
         ensures added { Adds (K.seen sink.old) (K.seen sink.new) self.old self.new piece.now }
         ensures bounded { handed self.new ≤ handed self.old + length piece.now }
+        ensures waits { length self.old.waiting + length piece.now ≤ 8192 → sink.new ≡ sink.old }
     {
         if piece.len() > self.waiting.remaining_capacity() {
             self.flush(sink);
