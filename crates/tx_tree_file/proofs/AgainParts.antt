@@ -1,8 +1,8 @@
 -- What is spelled is read again, part by part.
 use Rattle.std.proofs.lemmas.Bool.{and_parts, and_from}
-use Rattle.std.proofs.Common.{◌≡◌, ℕ, zero, suc, ◌+◌, ◌-◌, ◌*◌, ◌%◌, ◌<◌, ◌≤◌, ◌==◌, ◌&&◌, ◌||◌, ◌^◌, Bool, true, false, cond, not, nat_le, nat_lt, List, [], ◌∷◌, ◌++◌, length, take, drop, flat_map, Option, Some, None, is_some, option_map, option_and_then, refl, ap, ap₂, sym, ◌∙◌, arith, append_assoc, length-append, codes, decimal, bytes_eq, drop_at, take_at}
+use Rattle.std.proofs.Common.{◌≡◌, ℕ, zero, suc, ◌+◌, ◌-◌, ◌*◌, ◌%◌, ◌<◌, ◌≤◌, ◌==◌, ◌&&◌, ◌^◌, Bool, true, false, cond, not, nat_le, nat_lt, List, [], ◌∷◌, ◌++◌, length, take, drop, flat_map, Option, Some, None, is_some, option_map, option_and_then, refl, ap, ap₂, sym, ◌∙◌, arith, append_assoc, length-append, codes, decimal, bytes_eq, drop_at, take_at}
 use Rattle.std.specs.Char.{is_ascii_digit}
-use Rattle.std.specs.List.{list_all, list_any}
+use Rattle.std.specs.List.{list_all}
 use Rattle.std.specs.Str.{is_utf8}
 use Rattle.std.proofs.lemmas.Bool.{false≢true, ne_eqb, le-leb, leb-true, lt-ltb}
 use Rattle.std.proofs.lemmas.Bool.Decides.{nat_tests}
@@ -12,16 +12,16 @@ use Rattle.std.proofs.lemmas.Str.{is_utf8-from_IsUtf8}
 use Rattle.tx_read.specs.Number.{number_at_most, value, value_behind}
 use Rattle.tx_read.specs.Pieces.{behind}
 use Rattle.tx_tree.proofs.lemmas.Kinds.{of_kinds}
-use Rattle.tx_tree.specs.Kind.{kind_name, kind_named, is_alike}
+use Rattle.tx_tree.specs.Kind.{kind_name, kind_named, first_state, private_at, is_alike}
 use Rattle.tx_text.specs.Name.{is_name, begins_name, continues_name}
 use Rattle.tx_tree.specs.Spelled.{begins_capital, no_repeats, byte_is_spelled, kind_is_spelled, private_is_spelled, total_is_spelled}
 use Rattle.tx_tree.specs.declared.kind.Kind.{Kind}
-use Rattle.tx_tree.specs.declared.kind.Kind.TheVariants.{Screen, Container, Vertical, Horizontal, Grid, VerticalScroll, Static, Label, Button, Checkbox, Input, OptionList, ProgressBar, Header, Footer, Handed}
+use Rattle.tx_tree.specs.declared.kind.Kind.TheVariants.{Handed}
 use Rattle.tx_tree.specs.declared.kind.Private.{Private}
 use Rattle.tx_tree.specs.declared.kind.Private.TheVariants.{Plain, Cursor, On, Chosen, Bar}
 use Rattle.tx_tree_file.proofs.Fronts.{same-byte}
 use Rattle.tx_tree_file.proofs.Utf8Lemmas.{name_utf8}
-use Rattle.tx_tree_file.specs.Parts.{word, past_word, name_of, flag, flag_by, or_handed, kind_of, id_of, id_by, classes_within, class_by, classes_of, is_total, total_of, bar_by, box_by, private_of, is_plain, put_front, quoted, some_text, text_by, text_of, before_brace, inline_of}
+use Rattle.tx_tree_file.specs.Parts.{word, past_word, name_of, flag, flag_by, or_handed, kind_of, id_of, id_by, classes_within, class_by, classes_of, is_total, total_of, bar_by, box_by, private_by, private_of, is_plain, put_front, quoted, some_text, text_by, text_of, before_brace, inline_of}
 use Rattle.tx_tree_file.specs.Spelling.{id_part, class_part, class_parts, disabled_part, private_part, escaped, text_part, inline_part}
 use Rattle.tx_tree_file.specs.TreeFile.{id_is_typed, kind_is_typed, kept}
 
@@ -170,13 +170,6 @@ pub record IsStateAgain (kind : Kind) (private : Private) (bytes : List ℕ) : T
 quiet : (kind : Kind) (private : Private) (bytes : List ℕ) → private_part private ≡ [] → private_of kind bytes ≡ Some (Plain, bytes) → ((size : ℕ) → kept kind size Plain ≡ kept kind size private) → IsStateAgain kind private bytes
 quiet kind private bytes none read same = record { state = Plain; read = ap (λ (z : List ℕ). private_of kind (z ++ bytes)) none ∙ read; same = same }
 
-plain-state : (p : Private) → (is_alike Plain p && total_is_spelled p) ≡ true → p ≡ Plain
-plain-state Plain h = refl
-plain-state (Cursor n) h = absurd (false≢true h)
-plain-state (On b) h = absurd (false≢true h)
-plain-state (Chosen n) h = absurd (false≢true h)
-plain-state (Bar d t) h = absurd (false≢true h)
-
 -- digits
 digits-snoc : (ds : List ℕ) (d : ℕ) → list_all is_ascii_digit ds ≡ true → is_ascii_digit d ≡ true → list_all is_ascii_digit (ds ++ d ∷ []) ≡ true
 digits-snoc [] d h e = and_from _ true e refl
@@ -228,65 +221,66 @@ total-again n least most other =
     ap (option_and_then (λ (z : ℕ). cond (is_total (decimal n) z) (Some z) None)) (number-again 1000000 n few most)
     ∙ ap (λ (b : Bool). cond b (Some n) None) (and_from _ _ (same-bytes (decimal n)) (and_from _ _ least (ap not other)))
 
-bar-again : (done total : ℕ) (bytes : List ℕ) → total_is_spelled (Bar done total) ≡ true → Later 5 bytes → IsStateAgain ProgressBar (Bar done total) bytes
-bar-again done total bytes h l = by (total == 100) refl
+-- what is read behind a state of a kind that begins with this one
+reads-by : (kind : Kind) (first : Private) → first_state kind ≡ first → (bytes : List ℕ) (read : Option (Private × List ℕ)) → private_by (private_at 0 first) bytes ≡ read → private_of kind bytes ≡ read
+reads-by kind first e bytes read h = ap (λ (z : Private). private_by (private_at 0 z) bytes) e ∙ h
+
+bar-again : (kind : Kind) (from end done total : ℕ) → first_state kind ≡ Bar from end → (bytes : List ℕ) → total_is_spelled (Bar done total) ≡ true → Later 5 bytes → IsStateAgain kind (Bar done total) bytes
+bar-again kind from end done total first bytes h l = by (total == 100) refl
   where
     most : total ≤ 1000000
     most = leb-true total 1000000 (and_parts (nat_le 1 total) _ h).1
 
-    by : (b : Bool) → (total == 100) ≡ b → IsStateAgain ProgressBar (Bar done total) bytes
+    by : (b : Bool) → (total == 100) ≡ b → IsStateAgain kind (Bar done total) bytes
     by true e = record {
       state = Bar 0 100;
-      read = ap (λ (b : Bool). bar_by (behind (codes " total ") (cond b [] (codes " total " ++ decimal total) ++ bytes)) (cond b [] (codes " total " ++ decimal total) ++ bytes)) e
-          ∙ ap (λ (o : Option (List ℕ)). bar_by o bytes) (not_next 116 (codes "otal ") 5 bytes (omega arith) l);
+      read = reads-by kind (Bar from end) first _ _ (ap (λ (b : Bool). bar_by (behind (codes " total ") (cond b [] (codes " total " ++ decimal total) ++ bytes)) (cond b [] (codes " total " ++ decimal total) ++ bytes)) e
+          ∙ ap (λ (o : Option (List ℕ)). bar_by o bytes) (not_next 116 (codes "otal ") 5 bytes (omega arith) l));
       same = λ size. ap (Bar 0) (sym (same-byte total 100 e));
     }
     by false e =
         let w = word-again (decimal total) bytes (decimal-no_blank total (omega (arith, most))) (later-stops 5 bytes l) in record {
           state = Bar 0 total;
-          read = ap (λ (b : Bool). bar_by (behind (codes " total ") (cond b [] (codes " total " ++ decimal total) ++ bytes)) (cond b [] (codes " total " ++ decimal total) ++ bytes)) e
+          read = reads-by kind (Bar from end) first _ _ (ap (λ (b : Bool). bar_by (behind (codes " total ") (cond b [] (codes " total " ++ decimal total) ++ bytes)) (cond b [] (codes " total " ++ decimal total) ++ bytes)) e
               ∙ ap₂ (λ (x y : List ℕ). option_map (λ (t : ℕ). (Bar 0 t, y)) (total_of x)) w.0 w.1
-              ∙ ap (option_map (λ (t : ℕ). (Bar 0 t, bytes))) (total-again total (and_parts _ _ h).0 (and_parts (nat_le 1 total) _ h).1 e);
+              ∙ ap (option_map (λ (t : ℕ). (Bar 0 t, bytes))) (total-again total (and_parts _ _ h).0 (and_parts (nat_le 1 total) _ h).1 e));
           same = λ size. refl;
         }
 
-box-again : (b : Bool) (bytes : List ℕ) → Later 5 bytes → IsStateAgain Checkbox (On b) bytes
-box-again true bytes l = record { state = On true; read = refl; same = λ size. refl }
-box-again false bytes l = record { state = On false; read = ap (λ (o : Option (List ℕ)). box_by (flag_by o bytes)) (not_next 111 (codes "n") 5 bytes (omega arith) l); same = λ size. refl }
+box-again : (kind : Kind) (on b : Bool) → first_state kind ≡ On on → (bytes : List ℕ) → Later 5 bytes → IsStateAgain kind (On b) bytes
+box-again kind on true first bytes l = record { state = On true; read = reads-by kind (On on) first _ _ refl; same = λ size. refl }
+box-again kind on false first bytes l =
+    record { state = On false; read = reads-by kind (On on) first _ _ (ap (λ (o : Option (List ℕ)). box_by (flag_by o bytes)) (not_next 111 (codes "n") 5 bytes (omega arith) l)); same = λ size. refl }
+
+again-by : (kind : Kind) (first private : Private) → first_state kind ≡ first → (bytes : List ℕ) → (is_alike first private && total_is_spelled private) ≡ true → Later 5 bytes → IsStateAgain kind private bytes
+again-by kind (On on) (On b) e bytes h l = box-again kind on b e bytes l
+again-by kind (Bar from end) (Bar done total) e bytes h l = bar-again kind from end done total e bytes h l
+again-by kind Plain Plain e bytes h l = quiet kind Plain bytes refl (reads-by kind Plain e _ _ refl) (λ size. refl)
+again-by kind (Cursor from) (Cursor place) e bytes h l = quiet kind (Cursor place) bytes refl (reads-by kind (Cursor from) e _ _ refl) (λ size. refl)
+again-by kind (Chosen from) (Chosen line) e bytes h l = quiet kind (Chosen line) bytes refl (reads-by kind (Chosen from) e _ _ refl) (λ size. refl)
+again-by kind Plain (Cursor place) e bytes h l = absurd (false≢true h)
+again-by kind Plain (On b) e bytes h l = absurd (false≢true h)
+again-by kind Plain (Chosen line) e bytes h l = absurd (false≢true h)
+again-by kind Plain (Bar done total) e bytes h l = absurd (false≢true h)
+again-by kind (Cursor from) Plain e bytes h l = absurd (false≢true h)
+again-by kind (Cursor from) (On b) e bytes h l = absurd (false≢true h)
+again-by kind (Cursor from) (Chosen line) e bytes h l = absurd (false≢true h)
+again-by kind (Cursor from) (Bar done total) e bytes h l = absurd (false≢true h)
+again-by kind (On on) Plain e bytes h l = absurd (false≢true h)
+again-by kind (On on) (Cursor place) e bytes h l = absurd (false≢true h)
+again-by kind (On on) (Chosen line) e bytes h l = absurd (false≢true h)
+again-by kind (On on) (Bar done total) e bytes h l = absurd (false≢true h)
+again-by kind (Chosen from) Plain e bytes h l = absurd (false≢true h)
+again-by kind (Chosen from) (Cursor place) e bytes h l = absurd (false≢true h)
+again-by kind (Chosen from) (On b) e bytes h l = absurd (false≢true h)
+again-by kind (Chosen from) (Bar done total) e bytes h l = absurd (false≢true h)
+again-by kind (Bar from end) Plain e bytes h l = absurd (false≢true h)
+again-by kind (Bar from end) (Cursor place) e bytes h l = absurd (false≢true h)
+again-by kind (Bar from end) (On b) e bytes h l = absurd (false≢true h)
+again-by kind (Bar from end) (Chosen line) e bytes h l = absurd (false≢true h)
 
 pub private-again : (kind : Kind) (private : Private) (bytes : List ℕ) → private_is_spelled kind private ≡ true → Later 5 bytes → IsStateAgain kind private bytes
-private-again Checkbox (On b) bytes h l = box-again b bytes l
-private-again ProgressBar (Bar done total) bytes h l = bar-again done total bytes h l
-private-again Input (Cursor place) bytes h l = quiet Input (Cursor place) bytes refl refl (λ size. refl)
-private-again OptionList (Chosen line) bytes h l = quiet OptionList (Chosen line) bytes refl refl (λ size. refl)
-private-again Checkbox Plain bytes h l = absurd (false≢true h)
-private-again Checkbox (Cursor place) bytes h l = absurd (false≢true h)
-private-again Checkbox (Chosen line) bytes h l = absurd (false≢true h)
-private-again Checkbox (Bar done total) bytes h l = absurd (false≢true h)
-private-again ProgressBar Plain bytes h l = absurd (false≢true h)
-private-again ProgressBar (Cursor place) bytes h l = absurd (false≢true h)
-private-again ProgressBar (On b) bytes h l = absurd (false≢true h)
-private-again ProgressBar (Chosen line) bytes h l = absurd (false≢true h)
-private-again Input Plain bytes h l = absurd (false≢true h)
-private-again Input (On b) bytes h l = absurd (false≢true h)
-private-again Input (Chosen line) bytes h l = absurd (false≢true h)
-private-again Input (Bar done total) bytes h l = absurd (false≢true h)
-private-again OptionList Plain bytes h l = absurd (false≢true h)
-private-again OptionList (Cursor place) bytes h l = absurd (false≢true h)
-private-again OptionList (On b) bytes h l = absurd (false≢true h)
-private-again OptionList (Bar done total) bytes h l = absurd (false≢true h)
-private-again Screen p bytes h l = quiet Screen p bytes (ap private_part (plain-state p h)) refl (λ size. ap (kept Screen size) (sym (plain-state p h)))
-private-again Container p bytes h l = quiet Container p bytes (ap private_part (plain-state p h)) refl (λ size. ap (kept Container size) (sym (plain-state p h)))
-private-again Vertical p bytes h l = quiet Vertical p bytes (ap private_part (plain-state p h)) refl (λ size. ap (kept Vertical size) (sym (plain-state p h)))
-private-again Horizontal p bytes h l = quiet Horizontal p bytes (ap private_part (plain-state p h)) refl (λ size. ap (kept Horizontal size) (sym (plain-state p h)))
-private-again Grid p bytes h l = quiet Grid p bytes (ap private_part (plain-state p h)) refl (λ size. ap (kept Grid size) (sym (plain-state p h)))
-private-again VerticalScroll p bytes h l = quiet VerticalScroll p bytes (ap private_part (plain-state p h)) refl (λ size. ap (kept VerticalScroll size) (sym (plain-state p h)))
-private-again Static p bytes h l = quiet Static p bytes (ap private_part (plain-state p h)) refl (λ size. ap (kept Static size) (sym (plain-state p h)))
-private-again Label p bytes h l = quiet Label p bytes (ap private_part (plain-state p h)) refl (λ size. ap (kept Label size) (sym (plain-state p h)))
-private-again Button p bytes h l = quiet Button p bytes (ap private_part (plain-state p h)) refl (λ size. ap (kept Button size) (sym (plain-state p h)))
-private-again Header p bytes h l = quiet Header p bytes (ap private_part (plain-state p h)) refl (λ size. ap (kept Header size) (sym (plain-state p h)))
-private-again Footer p bytes h l = quiet Footer p bytes (ap private_part (plain-state p h)) refl (λ size. ap (kept Footer size) (sym (plain-state p h)))
-private-again (Handed name) p bytes h l = quiet (Handed name) p bytes (ap private_part (plain-state p h)) refl (λ size. ap (kept (Handed name) size) (sym (plain-state p h)))
+private-again kind private bytes h l = again-by kind (first_state kind) private refl bytes h l
 
 -- ---- texts
 

@@ -1,6 +1,6 @@
 -- What is read of a line is spelled so.
 use Rattle.std.proofs.lemmas.Bool.{and_parts, and_from}
-use Rattle.std.proofs.Common.{◌≡◌, ℕ, ◌≤◌, ◌==◌, ◌&&◌, ◌||◌, Bool, true, false, cond, not, nat_le, List, [], ◌∷◌, ◌++◌, length, flat_map, find, Option, Some, None, is_some, option_map, refl, ap, ap₂, sym, subst, ◌∙◌, arith, append-nil, length-append, codes, decimal, chars, bytes_eq, encode_utf8, encode_utf8_all}
+use Rattle.std.proofs.Common.{◌≡◌, ℕ, ◌≤◌, ◌==◌, ◌&&◌, Bool, true, false, cond, not, nat_le, List, [], ◌∷◌, ◌++◌, length, flat_map, find, Option, Some, None, is_some, option_map, refl, ap, ap₂, sym, subst, ◌∙◌, arith, append-nil, length-append, codes, decimal, chars, bytes_eq, encode_utf8, encode_utf8_all}
 use Rattle.std.specs.List.{list_all}
 use Rattle.std.specs.Str.{is_utf8, all_scalars}
 use Rattle.std.proofs.lemmas.Str.{IsUtf8-from_is_utf8, encodes-chars, scalars-chars}

@@ -8,13 +8,13 @@ use Rattle.std.proofs.lemmas.Str.{is_utf8-from_IsUtf8, IsUtf8-nil}
 use Rattle.tx_read.specs.Number.{number_at_most}
 use Rattle.tx_read.specs.Pieces.{behind}
 use Rattle.tx_text.specs.Name.{is_name}
-use Rattle.tx_tree.specs.Spelled.{no_repeats, byte_is_spelled, private_is_spelled}
+use Rattle.tx_tree.specs.Kind.{first_state, private_at, is_alike}
+use Rattle.tx_tree.specs.Spelled.{no_repeats, byte_is_spelled, private_is_spelled, total_is_spelled}
 use Rattle.tx_tree.specs.declared.kind.Kind.{Kind}
-use Rattle.tx_tree.specs.declared.kind.Kind.TheVariants.{Screen, Container, Vertical, Horizontal, Grid, VerticalScroll, Static, Label, Button, Checkbox, Input, OptionList, ProgressBar, Header, Footer, Handed}
 use Rattle.tx_tree.specs.declared.kind.Private.{Private}
-use Rattle.tx_tree.specs.declared.kind.Private.TheVariants.{Plain, On, Bar}
+use Rattle.tx_tree.specs.declared.kind.Private.TheVariants.{Plain, Cursor, On, Chosen, Bar}
 use Rattle.tx_tree_file.proofs.Fronts.{some-same, none-some, same-byte, front_of}
-use Rattle.tx_tree_file.specs.Parts.{word, past_word, name_of, flag, flag_by, id_of, id_by, classes_within, class_by, classes_of, is_total, total_of, bar_by, private_of, unescaped, is_plain, put_front, quoted, some_text, text_by, text_of, before_brace, inline_by, inline_of}
+use Rattle.tx_tree_file.specs.Parts.{word, past_word, name_of, flag, flag_by, id_of, id_by, classes_within, class_by, classes_of, is_total, total_of, bar_by, box_by, private_by, private_of, unescaped, is_plain, put_front, quoted, some_text, text_by, text_of, before_brace, inline_by, inline_of}
 use Rattle.tx_tree_file.specs.Spelling.{id_part, class_parts, private_part, escaped, text_part, inline_part}
 use Rattle.tx_tree_file.specs.TreeFile.{id_is_typed, kept}
 
@@ -139,49 +139,65 @@ other_total n h = by (n == 100) h
     by true h = absurd cc
     by false h = refl
 
-bar-found : (bytes : List ℕ) (found : Private × List ℕ) → bar_by (behind (codes " total ") bytes) bytes ≡ Some found
-    → (bytes ≡ private_part found.0 ++ found.1) × IsState ProgressBar found.0
-bar-found bytes found h = by (behind (codes " total ") bytes) refl h
-  where
-    Is : Private × List ℕ → Type 0
-    Is f = (bytes ≡ private_part f.0 ++ f.1) × IsState ProgressBar f.0
+-- what was read behind such a state
+abbrev IsFound : Kind → List ℕ → Private × List ℕ → Type 0
+IsFound kind bytes f = (bytes ≡ private_part f.0 ++ f.1) × IsState kind f.0
 
-    by : (o : Option (List ℕ)) → behind (codes " total ") bytes ≡ o → bar_by o bytes ≡ Some found → Is found
-    by None e g = subst Is (some-same g) (refl, record { part = λ size. refl; spelled = λ size. refl; again = λ size. refl })
+-- the state of a kind that begins with this one is spelled, where it is of the same form
+spelled-by : (kind : Kind) (first state : Private) → first_state kind ≡ first → (is_alike first state && total_is_spelled state) ≡ true → private_is_spelled kind state ≡ true
+spelled-by kind first state e h = ap (λ (z : Private). is_alike z state && total_is_spelled state) e ∙ h
+
+bar-found : (kind : Kind) (done total : ℕ) → first_state kind ≡ Bar done total → (bytes : List ℕ) (found : Private × List ℕ) → bar_by (behind (codes " total ") bytes) bytes ≡ Some found → IsFound kind bytes found
+bar-found kind done total first bytes found h = by (behind (codes " total ") bytes) refl h
+  where
+    by : (o : Option (List ℕ)) → behind (codes " total ") bytes ≡ o → bar_by o bytes ≡ Some found → IsFound kind bytes found
+    by None e g = subst (IsFound kind bytes) (some-same g) (refl, record { part = λ size. refl; spelled = λ size. spelled-by kind (Bar done total) (Bar 0 100) first refl; again = λ size. refl })
     by (Some rest) e g =
         let (n, is, same) = map-inv (λ (total : ℕ). (Bar 0 total, past_word rest)) (total_of (word rest)) found g in
         let (digits, least, most, other) = total-found (word rest) n is in
-        subst Is same (
+        subst (IsFound kind bytes) same (
           worded (codes " total ") bytes rest (decimal n) e (sym digits) ∙ ap (λ (z : List ℕ). z ++ past_word rest) (sym (other_total n other)),
-          record { part = λ size. refl; spelled = λ size. and_from _ _ least most; again = λ size. refl },
+          record { part = λ size. refl; spelled = λ size. spelled-by kind (Bar done total) (Bar 0 n) first (and_from _ _ least most); again = λ size. refl },
         )
 
-plain-found : (kind : Kind) (bytes : List ℕ) (found : Private × List ℕ) → IsState kind Plain → Some (Plain, bytes) ≡ Some found
-    → (bytes ≡ private_part found.0 ++ found.1) × IsState kind found.0
-plain-found kind bytes found state h = subst (λ (f : Private × List ℕ). (bytes ≡ private_part f.0 ++ f.1) × IsState kind f.0) (some-same h) (refl, state)
+box-found : (kind : Kind) (on : Bool) → first_state kind ≡ On on → (bytes : List ℕ) (found : Private × List ℕ) → box_by (flag (codes " on") bytes) ≡ Some found → IsFound kind bytes found
+box-found kind on first bytes found h =
+    subst (IsFound kind bytes) (some-same h) (
+      flag-found (codes " on") bytes ∙ ap (λ (z : List ℕ). z ++ (flag (codes " on") bytes).1) (on_part (flag (codes " on") bytes).0),
+      record { part = λ size. refl; spelled = λ size. spelled-by kind (On on) (On (flag (codes " on") bytes).0) first refl; again = λ size. refl },
+    )
+
+found-by : (kind : Kind) (first : Private) → first_state kind ≡ first → (bytes : List ℕ) (found : Private × List ℕ) → private_by (private_at 0 first) bytes ≡ Some found → IsFound kind bytes found
+found-by kind (On on) e bytes found h = box-found kind on e bytes found h
+found-by kind (Bar done total) e bytes found h = bar-found kind done total e bytes found h
+found-by kind Plain e bytes found h = subst (IsFound kind bytes) (some-same h) (
+  refl,
+  record {
+    part = λ size. ap (λ (z : Private). private_part (private_at size z)) e;
+    spelled = λ size. ap (λ (z : Private). is_alike z (private_at size z) && total_is_spelled (private_at size z)) e;
+    again = λ size. ap (λ (z : Private). kept kind size (private_at size z)) e;
+  },
+)
+found-by kind (Cursor place) e bytes found h = subst (IsFound kind bytes) (some-same h) (
+  refl,
+  record {
+    part = λ size. ap (λ (z : Private). private_part (private_at size z)) e;
+    spelled = λ size. ap (λ (z : Private). is_alike z (private_at size z) && total_is_spelled (private_at size z)) e;
+    again = λ size. ap (λ (z : Private). kept kind size (private_at size z)) e;
+  },
+)
+found-by kind (Chosen line) e bytes found h = subst (IsFound kind bytes) (some-same h) (
+  refl,
+  record {
+    part = λ size. ap (λ (z : Private). private_part (private_at size z)) e;
+    spelled = λ size. ap (λ (z : Private). is_alike z (private_at size z) && total_is_spelled (private_at size z)) e;
+    again = λ size. ap (λ (z : Private). kept kind size (private_at size z)) e;
+  },
+)
 
 pub private-found : (kind : Kind) (bytes : List ℕ) (found : Private × List ℕ) → private_of kind bytes ≡ Some found
     → (bytes ≡ private_part found.0 ++ found.1) × IsState kind found.0
-private-found Checkbox bytes found h =
-    subst (λ (f : Private × List ℕ). (bytes ≡ private_part f.0 ++ f.1) × IsState Checkbox f.0) (some-same h) (
-      flag-found (codes " on") bytes ∙ ap (λ (z : List ℕ). z ++ (flag (codes " on") bytes).1) (on_part (flag (codes " on") bytes).0),
-      record { part = λ size. refl; spelled = λ size. refl; again = λ size. refl },
-    )
-private-found ProgressBar bytes found h = bar-found bytes found h
-private-found Screen bytes found h = plain-found Screen bytes found (record { part = λ size. refl; spelled = λ size. refl; again = λ size. refl }) h
-private-found Container bytes found h = plain-found Container bytes found (record { part = λ size. refl; spelled = λ size. refl; again = λ size. refl }) h
-private-found Vertical bytes found h = plain-found Vertical bytes found (record { part = λ size. refl; spelled = λ size. refl; again = λ size. refl }) h
-private-found Horizontal bytes found h = plain-found Horizontal bytes found (record { part = λ size. refl; spelled = λ size. refl; again = λ size. refl }) h
-private-found Grid bytes found h = plain-found Grid bytes found (record { part = λ size. refl; spelled = λ size. refl; again = λ size. refl }) h
-private-found VerticalScroll bytes found h = plain-found VerticalScroll bytes found (record { part = λ size. refl; spelled = λ size. refl; again = λ size. refl }) h
-private-found Static bytes found h = plain-found Static bytes found (record { part = λ size. refl; spelled = λ size. refl; again = λ size. refl }) h
-private-found Label bytes found h = plain-found Label bytes found (record { part = λ size. refl; spelled = λ size. refl; again = λ size. refl }) h
-private-found Button bytes found h = plain-found Button bytes found (record { part = λ size. refl; spelled = λ size. refl; again = λ size. refl }) h
-private-found Input bytes found h = plain-found Input bytes found (record { part = λ size. refl; spelled = λ size. refl; again = λ size. refl }) h
-private-found OptionList bytes found h = plain-found OptionList bytes found (record { part = λ size. refl; spelled = λ size. refl; again = λ size. refl }) h
-private-found Header bytes found h = plain-found Header bytes found (record { part = λ size. refl; spelled = λ size. refl; again = λ size. refl }) h
-private-found Footer bytes found h = plain-found Footer bytes found (record { part = λ size. refl; spelled = λ size. refl; again = λ size. refl }) h
-private-found (Handed name) bytes found h = plain-found (Handed name) bytes found (record { part = λ size. refl; spelled = λ size. refl; again = λ size. refl }) h
+private-found kind bytes found h = found-by kind (first_state kind) refl bytes found h
 
 -- ---- texts
 

@@ -4,7 +4,7 @@ use Rattle.std.specs.Prelude.{ℕ, zero, suc, ◌-◌, ◌==◌, ◌&&◌, Bool,
 use Rattle.std.specs.Str.{is_utf8}
 use Rattle.tx_read.specs.Number.{number_at_most}
 use Rattle.tx_read.specs.Pieces.{behind}
-use Rattle.tx_tree.specs.Kind.{kind_named}
+use Rattle.tx_tree.specs.Kind.{kind_named, fresh}
 use Rattle.tx_text.specs.Name.{is_name}
 use Rattle.tx_tree.specs.Spelled.{begins_capital, no_repeats, byte_is_spelled, key_is_spelled}
 use Rattle.tx_tree.specs.declared.bind.Action.{Action}
@@ -13,9 +13,9 @@ use Rattle.tx_tree.specs.declared.bind.Jump.TheVariants.{Up as JumpUp, Down as J
 use Rattle.tx_tree.specs.declared.bind.Key.{Key}
 use Rattle.tx_tree.specs.declared.bind.Key.TheVariants.{Char, Enter, Escape, Tab, ShiftTab, Backspace, Delete, Up, Down, Left, Right, Home, End, PageUp, PageDown, Function, Ctrl}
 use Rattle.tx_tree.specs.declared.kind.Kind.{Kind}
-use Rattle.tx_tree.specs.declared.kind.Kind.TheVariants.{Checkbox, ProgressBar, Handed}
+use Rattle.tx_tree.specs.declared.kind.Kind.TheVariants.{Handed}
 use Rattle.tx_tree.specs.declared.kind.Private.{Private}
-use Rattle.tx_tree.specs.declared.kind.Private.TheVariants.{Plain, On, Bar}
+use Rattle.tx_tree.specs.declared.kind.Private.TheVariants.{Plain, Cursor, On, Chosen, Bar}
 use Rattle.tx_tree_file.specs.Spelling.{key_name, action_name}
 
 -- ---- words
@@ -81,19 +81,25 @@ is_total digits n = bytes_eq (decimal n) digits && (nat_le 1 n && not (n == 100)
 abbrev pub total_of : List ℕ → Option ℕ
 total_of digits = option_and_then (λ n. if is_total digits n then Some n else None) (number_at_most 1000000 digits)
 
--- `total N` of a ProgressBar
+-- `total N`, where it stands there
 abbrev pub bar_by : Option (List ℕ) → List ℕ → Option (Private × List ℕ)
 bar_by None bytes = Some (Bar 0 100, bytes)
 bar_by (Some rest) bytes = option_map (λ total. (Bar 0 total, past_word rest)) (total_of (word rest))
 
--- `on` of a Checkbox
+-- `on`, where it stands there
 abbrev pub box_by : Bool × List ℕ → Option (Private × List ℕ)
 box_by found = Some (On found.0, found.1)
 
+-- by the state that a row begins with: `on` of a box and the total of a bar, and nothing else
+abbrev pub private_by : Private → List ℕ → Option (Private × List ℕ)
+private_by (On on) bytes = box_by (flag (codes " on") bytes)
+private_by (Bar done total) bytes = bar_by (behind (codes " total ") bytes) bytes
+private_by Plain bytes = Some (Plain, bytes)
+private_by (Cursor place) bytes = Some (Plain, bytes)
+private_by (Chosen line) bytes = Some (Plain, bytes)
+
 abbrev pub private_of : Kind → List ℕ → Option (Private × List ℕ)
-private_of Checkbox bytes = box_by (flag (codes " on") bytes)
-private_of ProgressBar bytes = bar_by (behind (codes " total ") bytes) bytes
-private_of kind bytes = Some (Plain, bytes)
+private_of kind bytes = private_by (fresh kind 0) bytes
 
 -- what a byte behind a backslash stands for
 abbrev pub unescaped : ℕ → Option ℕ

@@ -117,16 +117,16 @@ fn bar_of(bytes: &[u8]) -> Option<(Private, &[u8])>
     }
 }
 
-/// `on` of a Checkbox and `total N` of a ProgressBar, where they stand there.
+/// `on` of a kind that is on or off, and `total N` of one that has a total, where they stand there.
 pub fn private_of(kind: Kind, bytes: &[u8]) -> Option<(Private, &[u8])>
     ensures { option_map (λ found. (found.0, found.1.now)) result ≡ private_of kind bytes.now }
 {
-    match kind {
-        Kind::Checkbox => {
+    match Private::fresh(kind, 0) {
+        Private::On(_) => {
             let (on, rest) = flag(bytes, b" on");
             Some((Private::On(on), rest))
         }
-        Kind::ProgressBar => bar_of(bytes),
+        Private::Bar { .. } => bar_of(bytes),
         _ => Some((Private::Plain, bytes)),
     }
 }
