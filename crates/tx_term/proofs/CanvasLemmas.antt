@@ -7,7 +7,7 @@ use Rattle.tx_cell.specs.declared.pen.Pen.{Pen}
 use Rattle.tx_geom.specs.declared.places.Size.{Size}
 use Rattle.tx_cell.specs.Pen.{white_on_black}
 use Rattle.std.specs.Prelude.{slice_get, unwrap_or}
-use Rattle.tx_cell.specs.Grid.{GridValue, changed_at, filled, with_put, with_row_of}
+use Rattle.tx_cell.specs.Grid.{GridValue, changed_at, filled, with_row_of}
 use Rattle.tx_cell.specs.Strip.{laid, with_tail}
 use Rattle.tx_term.specs.Canvas.{CanvasValue, IsInside, IsKept, fitting, held_cell, drawn, columns_of, put_held, shown_grid, erased, opened_canvas}
 

@@ -1,8 +1,7 @@
 -- Marks that are written one behind another.
-use Rattle.std.proofs.Common.{◌≡◌, ◌≤◌, ◌+◌, ℕ, List, [], ◌∷◌, ◌++◌, length, Option, Some, None, refl, ap, sym, ◌∙◌, append_assoc, append-nil, arith, length-append, Bool, true, false, cond, flat_map, ◌&&◌, ◌||◌, zip, drop, take, get_or, ◌-◌, zero, suc, slice_get, length-drop, add-one, subst}
+use Rattle.std.proofs.Common.{◌≡◌, ◌≤◌, ◌<◌, ◌+◌, ℕ, List, [], ◌∷◌, ◌++◌, length, Option, Some, None, refl, ap, sym, ◌∙◌, append_assoc, append-nil, arith, length-append, Bool, true, false, cond, flat_map, ◌&&◌, ◌||◌, zip, drop, get_or, zero, suc, slice_get, length-drop, add-one, subst}
 use Rattle.std.proofs.lemmas.List.{drop-drop, nil_from_length}
 use Rattle.std.proofs.lemmas.Slice.Zip.{length-zip}
-use Rattle.std.proofs.lemmas.Grind.{common_steps}
 use Rattle.tx_cell.specs.Cell.{CellValue}
 use Rattle.tx_cell.specs.declared.pen.Pen.{Pen}
 use Rattle.tx_term.specs.Drawing.{Draws, DrawsColumn, pen_after, rest_marks, first_run_marks, unit_marks}
@@ -88,10 +87,6 @@ rest_marks-end row behind = refl
 
 -- ---- columns
 
--- behind the row
-pub DrawsColumn-end : {s : SinkSeen} {w : Writer} (row column : ℕ) (whole behind : Bool) → DrawsColumn s s w w row column whole behind behind []
-DrawsColumn-end row column whole behind = record { marks = []; drawn = Draws-nothing; few = omega arith; rest = refl }
-
 -- the units where there is a tail, and where there is none
 pub units-tail : (whole : Bool) (column : ℕ) (old new : CellValue) (pairs : List (CellValue × CellValue)) → new.tail ≡ true
     → units whole column ((old, new) ∷ pairs) ≡ units whole (column + 1) pairs
@@ -138,24 +133,6 @@ DrawsColumn-unit row column whole behind after old new pairs head differs drawn 
           ∙ ap (λ b. unit_marks row column behind new ++ rest_marks row b (units whole (column + 1) pairs)) (sym plain);
     }
 
--- ---- slices
-
--- a list is its first item and the rest
-first_and_rest : {A : Type 0} (xs : List A) (x : A) → 1 ≤ length xs → x ≡ get_or xs 0 x → xs ≡ x ∷ take (length xs - 1) (drop 1 xs)
-first_and_rest [] x some first = absurd (omega arith)
-first_and_rest (y ∷ xs) x some first =
-    ap (λ z. z ∷ xs) (sym first) ∙ ap (λ zs. x ∷ zs) (sym (whole xs (length (y ∷ xs) - 1) (omega arith)))
-  where
-    whole : {A : Type 0} (zs : List A) (n : ℕ) → n ≡ length zs → take n zs ≡ zs
-    whole zs n e = grind (arith, common_steps)
-
--- the first items of two rows, and what is behind them
-pub zip-first : {A B : Type 0} (xs : List A) (ys : List B) (x : A) (y : B) → 1 ≤ length xs → 1 ≤ length ys → x ≡ get_or xs 0 x → y ≡ get_or ys 0 y
-    → zip xs ys ≡ (x, y) ∷ zip (take (length xs - 1) (drop 1 xs)) (take (length ys - 1) (drop 1 ys))
-zip-first xs ys x y some_x some_y first_x first_y =
-    ap (λ zs. zip zs ys) (first_and_rest xs x some_x first_x)
-    ∙ ap (λ zs. zip (x ∷ take (length xs - 1) (drop 1 xs)) zs) (first_and_rest ys y some_y first_y)
-
 -- ---- rows
 
 zip-nothing : {A B : Type 0} (zs : List A) → zip {K = A} {X = B} zs [] ≡ []
@@ -182,6 +159,21 @@ row_more row column whole behind after shown next shown_rest next_rest all marks
     ∙ ap (λ m. marks ++ m) here
     ∙ ap (λ z. marks ++ (more ++ rest_marks row after (units whole (column + 1) z))) (ap (drop 1) pairs ∙ drop-drop 1 column (zip shown next))
     ∙ sym (append_assoc marks more (rest_marks row after (units whole (column + 1) (drop (column + 1) (zip shown next)))))
+
+drop_first : {A : Type 0} (xs : List A) (n : ℕ) (x : A) → n < length xs → x ≡ get_or xs n x → drop n xs ≡ x ∷ drop (suc n) xs
+drop_first [] n x few is = absurd (omega (arith, few))
+drop_first (y ∷ xs) zero x few is = ap (λ z. z ∷ xs) (sym is)
+drop_first (y ∷ xs) (suc n) x few is = drop_first xs n x (omega (arith, few)) is
+
+-- the cells in a column, and those behind them
+pub zip-column : (shown next shown_rest next_rest : List CellValue) (column : ℕ) (old new : CellValue) → column < length next → length shown ≡ length next
+    → old ≡ get_or shown column old → new ≡ get_or next column new → shown_rest ≡ drop (column + 1) shown → next_rest ≡ drop (column + 1) next
+    → zip (drop column shown) (drop column next) ≡ (old, new) ∷ zip shown_rest next_rest
+zip-column shown next shown_rest next_rest column old new inside same old_is new_is shown_is next_is =
+    let one : suc column ≡ column + 1 = omega arith in
+    let olds = drop_first shown column old (omega (arith, inside, same)) old_is ∙ ap (λ n. old ∷ drop n shown) one ∙ ap (λ rest. old ∷ rest) (sym shown_is) in
+    let news = drop_first next column new inside new_is ∙ ap (λ n. new ∷ drop n next) one ∙ ap (λ rest. new ∷ rest) (sym next_is) in
+    ap (λ xs. zip xs (drop column next)) olds ∙ ap (λ ys. zip (old ∷ shown_rest) ys) news
 
 -- the end of a row
 pub row_end : (row column : ℕ) (whole behind : Bool) (shown next : List CellValue) (marks : List Mark)

@@ -1,5 +1,6 @@
 //! The rows of a grid, one unit after another.
-ghost use Rattle.std.specs.Prelude.{◌≡◌, ◌≤◌, ◌<◌, ◌+◌, ◌*◌, ◌^◌, ◌||◌, length, zip};
+ghost use Rattle.std.specs.Prelude.{◌≡◌, ◌≤◌, ◌<◌, ◌+◌, ◌*◌, ◌^◌, ◌||◌, ◌∷◌, Bool, List, length, zip};
+ghost use Rattle.tx_cell.specs.Cell.{CellValue};
 ghost use Rattle.tx_term.specs.Drawing.{Draws, DrawsColumn};
 ghost use Rattle.tx_term.specs.Gather.{handed};
 ghost use Rattle.tx_term.specs.Update.{row_marks, rows_marks, unit_differs};
@@ -9,36 +10,29 @@ use crate::update::writer::Writer;
 use tx_cell::{Cell, Grid};
 use tx_io::Sink;
 
-/// Writes what stands in a column, where the slices are the rest of the row from it on. Answers
-/// whether the unit behind it stands behind a plain one of its run.
+/// Writes the cell in a column, where it begins a unit that differs. Answers whether the unit behind
+/// it stands behind a plain one of its run.
 fn write_column<K: Sink>(
     writer: &mut Writer,
     sink: &mut K,
     row: u32,
     column: u32,
     behind_plain: bool,
-    whole: bool,
-    shown: &[Cell],
-    next: &[Cell],
+    cell: &Cell,
+    differs: bool,
 ) -> bool
     requires row { row < 65535 }
     requires column { column < 65535 }
     requires counted { handed writer.old.gather + 1024 < 2 ^ 64 }
-    ensures { DrawsColumn (K.seen sink.old) (K.seen sink.new) writer.old writer.new row column whole behind_plain result (zip shown.now next.now) }
+    ensures { (whole : Bool) (old : CellValue) (pairs : List (CellValue × CellValue)) → (whole || unit_differs (old, cell.now) pairs) ≡ differs → DrawsColumn (K.seen sink.old) (K.seen sink.new) writer.old writer.new row column whole behind_plain result ((old, cell.now) ∷ pairs) }
 {
-    let [old, behind_old @ ..] = shown else {
-        return behind_plain;
-    };
-    let [new, behind_new @ ..] = next else {
-        return behind_plain;
-    };
-    if new.tail() {
+    if cell.tail() {
         return behind_plain;
     }
-    if !counts_as_differing(whole, old, new, behind_old, behind_new) {
+    if !differs {
         return false;
     }
-    writer.write_unit(sink, row, column, behind_plain, new)
+    writer.write_unit(sink, row, column, behind_plain, cell)
 }
 
 fn counts_as_differing(
@@ -71,18 +65,11 @@ fn write_row<K: Sink>(
 {
     let mut behind_plain = false;
     for column in 0..next.len() {
-        let (_, shown_rest) = shown.split_at(column);
-        let (_, next_rest) = next.split_at(column);
-        behind_plain = write_column(
-            writer,
-            sink,
-            row,
-            column as u32,
-            behind_plain,
-            whole,
-            shown_rest,
-            next_rest,
-        );
+        let (_, shown_rest) = shown.split_at(column + 1);
+        let (_, next_rest) = next.split_at(column + 1);
+        let (old, new) = (&shown[column], &next[column]);
+        let differs = counts_as_differing(whole, old, new, shown_rest, next_rest);
+        behind_plain = write_column(writer, sink, row, column as u32, behind_plain, new, differs);
     }
 }
 
