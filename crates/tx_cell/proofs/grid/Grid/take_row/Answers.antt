@@ -22,6 +22,8 @@ returns c =
     let same = rw (← c.self.view_is, ← c.from.view_is) at c.requires.same_size in
     let row = rw (← c.self.view_is) at c.requires.row in
     let from = IsArray-same _ _ _ same c.from.invariant in
-    record { grid = rw (← c.self.view_is, ← c.from.view_is, back, c.copy_at.ensures.row, c.deref_mut.ensures.value, c.deref.ensures.value) (ap (λ rows. record { size = c.self.inside.size; rows = rows })
-    (rows_of-taken _ _ _ _ c.self.invariant from row
-    ∙ ap (λ (s : Size). changed_at c.args.y (λ row. unwrap_or (slice_get (rows_of s.width s.height c.from.inside.cells.items) c.args.y) row) (rows_of c.self.inside.size.width c.self.inside.size.height c.self.inside.cells.items)) same)) }
+    record {
+      grid = rw (← c.self.view_is, ← c.from.view_is, back, c.copy_at.ensures.row, c.deref_mut.ensures.value, c.deref.ensures.value) (ap (λ rows. record { size = c.self.inside.size; rows = rows })
+          (rows_of-taken _ _ _ _ c.self.invariant from row
+          ∙ ap (λ (s : Size). changed_at c.args.y (λ row. unwrap_or (slice_get (rows_of s.width s.height c.from.inside.cells.items) c.args.y) row) (rows_of c.self.inside.size.width c.self.inside.size.height c.self.inside.cells.items)) same));
+    }
