@@ -1,0 +1,7 @@
+pub mod Ask
+pub mod Steps
+pub mod Style
+pub mod Children
+pub mod Sides
+pub mod Room
+pub mod Arrangement

@@ -1,0 +1,31 @@
+//! The children of a container while they are arranged.
+
+use crate::styles::BoxStyle;
+use tx_box::Basis;
+use tx_geom::Axis;
+
+/// The cells of a child in one direction: where they begin, and how many they are.
+#[derive(Clone, Copy)]
+pub struct Side {
+    pub from: u64,
+    pub size: u32,
+}
+
+/// A child with its place among all children, and the columns and rows that it has so far.
+#[derive(Clone, Copy)]
+pub struct Child {
+    pub place: u32,
+    pub style: BoxStyle,
+    pub wide: Side,
+    pub tall: Side,
+}
+
+/// In what children are given their sizes.
+#[derive(Clone, Copy)]
+pub struct Setting {
+    /// The direction in which they follow each other. Without one each stands by itself.
+    pub main: Option<Axis>,
+    pub basis: Basis,
+    /// How many children the container has. A measure may be asked of each of these.
+    pub count: u32,
+}
