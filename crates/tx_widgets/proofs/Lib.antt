@@ -1,0 +1,9 @@
+pub mod CutLemmas
+pub mod FieldLemmas
+pub mod LineLemmas
+pub mod LineWholeLemmas
+pub mod PenLemmas
+pub mod ResultLemmas
+pub mod RowLemmas
+pub mod SingleLemmas
+pub mod WholeLemmas

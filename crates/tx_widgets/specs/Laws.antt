@@ -1,0 +1,53 @@
+-- A text of one line that is drawn at the width that it wants loses no cell.
+use Rattle.std.specs.Prelude.{◌≡◌, ◌<◌, ℕ, Bool, true, false, List, [], ◌∷◌, ◌++◌, map}
+use Rattle.tx_cell.specs.Cell.{CellValue}
+use Rattle.tx_cell.specs.Lines.{text_lines}
+use Rattle.tx_cell.specs.Strip.{line_cells}
+use Rattle.tx_tree.specs.declared.kind.Kind.{Kind}
+use Rattle.tx_tree.specs.declared.kind.Kind.TheVariants.{Static, Label, Button, Checkbox, Input, Header, Footer}
+use Rattle.tx_widgets.specs.Drawing.{drawn_row, first_of}
+use Rattle.tx_widgets.specs.Measures.{most, wanted_width}
+use Rattle.tx_widgets.specs.declared.drawing.face.Face.{Face}
+
+-- the texts of cells
+abbrev pub texts : List CellValue → List (List ℕ)
+texts cells = map (λ cell. cell.text) cells
+
+-- all of these cells stand in a row, one behind the other, in whichever pen
+pub record HasAll (cells row : List CellValue) : Type 0 where
+  pub before : List (List ℕ)
+  pub behind : List (List ℕ)
+  pub whole : texts row ≡ before ++ (texts cells ++ behind)
+
+-- one of the rows of a face has all of these cells
+pub record ShowsAll (face : Face) (cells : List CellValue) : Type 0 where
+  pub row : ℕ
+  pub inside : row < face.content.height
+  pub all : HasAll cells (drawn_row face row)
+
+-- the content has a row and is as wide as the face wants, where that number isn't cut
+pub record HasItsWidth (face : Face) : Type 0 where
+  pub some : 0 < face.content.height
+  pub width : face.content.width ≡ wanted_width face.kind face.text.now face.pen
+  pub uncut : face.content.width < most
+
+-- whether a kind draws its text in wrapped lines
+abbrev pub draws_lines : Kind → Bool
+draws_lines Static = true
+draws_lines Label = true
+draws_lines Button = true
+draws_lines Header = true
+draws_lines Footer = true
+draws_lines _ = false
+
+-- a text of one line is shown whole
+abbrev pub LinesAreWhole : Type 0
+LinesAreWhole = (face : Face) (line : List ℕ) → draws_lines face.kind ≡ true → text_lines face.text.now ≡ line ∷ [] → HasItsWidth face → ShowsAll face (line_cells line face.pen)
+
+-- so is the first line of a Checkbox
+abbrev pub BoxesAreWhole : Type 0
+BoxesAreWhole = (face : Face) → face.kind ≡ Checkbox → HasItsWidth face → ShowsAll face (line_cells (first_of (text_lines face.text.now)) face.pen)
+
+-- so is the text of an Input
+abbrev pub FieldsAreWhole : Type 0
+FieldsAreWhole = (face : Face) → face.kind ≡ Input → HasItsWidth face → ShowsAll face (line_cells face.text.now face.pen)

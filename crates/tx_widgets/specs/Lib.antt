@@ -1,0 +1,9 @@
+pub mod Form
+pub mod Columns
+pub mod TextRows
+pub mod Field
+pub mod Options
+pub mod Drawing
+pub mod Measures
+pub mod Laws
+pub mod Frame

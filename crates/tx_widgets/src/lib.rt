@@ -1,0 +1,13 @@
+//! The built-in widgets: what each draws in its content, how wide and how tall it wants to be, and
+//! what a frame tells of the rows that it shows.
+#![tactic(auto)]
+
+mod drawing;
+pub mod laws;
+mod sight;
+#[cfg(test)]
+mod tests;
+
+pub use drawing::{Face, line, lines, tall, wide};
+pub use sight::Sight;
+pub use tx_text::NoMemory;

@@ -1,0 +1,4 @@
+mod faces;
+mod frames;
+mod measures;
+mod table;
