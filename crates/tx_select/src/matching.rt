@@ -1,5 +1,5 @@
 //! Which rows a selector matches.
-ghost use Rattle.std.specs.Prelude.{◌≡◌, ◌≤◌, [], ◌∷◌, true, length, map, filter, IfOk, is_some};
+ghost use Rattle.std.specs.Prelude.{ℕ, IfSome, ◌≡◌, ◌≤◌, [], ◌∷◌, true, length, map, filter, IfOk, is_some};
 ghost use Rattle.std.specs.List.{FoldsTo, find};
 ghost use Rattle.std.specs.Option.{option_copied, option_map};
 ghost use Rattle.tx_tree.specs.Row.{number, plain};
@@ -88,7 +88,9 @@ pub fn query(
 /// The node of the first row in document order that a selector matches. None comes exactly where it
 /// matches no row. It takes no memory.
 pub fn query_one(tree: &Tree, pseudo: &Pseudo, selector: &Selector) -> Option<NodeId>
-    ensures { IsFirstMatch pseudo.now tree.now.rows selector.now.compounds result }
+    ensures first { IsFirstMatch pseudo.now tree.now.rows selector.now.compounds result }
+    ensures found { IfSome result (λ node. IsMatch pseudo.now tree.now.rows node.0 selector.now.compounds) }
+    ensures none { result ≡ None → (n : ℕ) → IsMatch pseudo.now tree.now.rows n selector.now.compounds → ⊥ }
 {
     let _root = tree.root();
     first_matching(tree, pseudo, selector.compounds().as_slice())
