@@ -1,18 +1,16 @@
 -- The rows of a grid, kept one after another.
 use Rattle.std.proofs.Common.{◌≡◌, ◌+◌, ◌-◌, ◌*◌, ◌<◌, ◌≤◌, ℕ, zero, suc, List, [], ◌∷◌, ◌++◌, length, take, drop, replicate, Bool, true, false, refl, sym, arith, ap, ap₂, subst, ◌∙◌, length-append, length-drop, append_assoc}
 use Rattle.std.proofs.Math.Seq.{take_at, drop_at, take-add, drop-drop, length-take-le}
-use Rattle.std.proofs.lemmas.List.{take-append-drop, take-take, nil_from_length}
-use Rattle.std.proofs.lemmas.Bool.{ltb-true, ltb-false}
 use Rattle.std.proofs.lemmas.List.{length-replicate}
 use Rattle.std.proofs.Math.ListN.{replicate-append-replicate}
 use Rattle.std.proofs.lemmas.List.Elements.{All-nil, All-cons, All-head, All-tail, All-replicate}
 use Rattle.std.specs.List.{All, slice_get}
 use Rattle.std.specs.Prelude.{Option, Some, unwrap_or, nat_lt}
-use Rattle.tx_cell.specs.Cell.{CellValue, IsCell, IsOfItsText, tail_of}
+use Rattle.tx_cell.specs.Cell.{CellValue, IsCell, IsOfItsText}
 use Rattle.tx_cell.specs.Grid.{GridValue, IsGrid, IsArray, rows_of, changed_at}
 use Rattle.tx_geom.specs.declared.places.Size.{Size}
-use Rattle.tx_cell.specs.Strip.{IsWellFormed, laid, with_tail, cut_end, cut_front, joined}
-use Rattle.tx_cell.proofs.StripLemmas.{IsWellFormed-laid, length-laid, length-cut_end}
+use Rattle.tx_cell.specs.Strip.{IsWellFormed, laid}
+use Rattle.tx_cell.proofs.StripLemmas.{IsWellFormed-laid, length-laid}
 
 -- one row more is as many cells more as a row has
 past_row : (width y : ℕ) → suc y * width ≡ width + y * width
