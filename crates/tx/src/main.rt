@@ -5,7 +5,7 @@ use std::env;
 use std::io::ErrorKind;
 use std::process::ExitCode;
 use tx_app::top_alone;
-use tx_io::{HostFiles, WriterSink};
+use tx_io::{HostFiles, Steps, Uncounted, WriterSink};
 
 const USAGE: u8 = 1;
 
@@ -31,7 +31,8 @@ fn status(rt: &HostRuntime) -> u8 {
             let mut files = HostFiles::new(rt);
             let mut out = WriterSink::new(rt.stdout());
             let mut err = WriterSink::new(rt.stderr());
-            top_alone(rt.alloc(), &words, &mut files, &mut out, &mut err).status
+            let mut steps = Steps { ledger: Uncounted };
+            top_alone(rt.alloc(), &words, &mut files, &mut out, &mut err, &mut steps).status
         }
         Err(status) => status,
     }

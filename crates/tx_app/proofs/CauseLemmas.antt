@@ -1,5 +1,5 @@
 -- What the causes of a run say.
-use Rattle.std.proofs.Common.{◌≡◌, ℕ, zero, suc, Bool, true, false, cond, List, [], ◌∷◌, Option, None, Some, refl, ap, sym, ◌∙◌, arith, subst, zero-add, IfSome, Ok, Err}
+use Rattle.std.proofs.Common.{◌≡◌, ℕ, zero, suc, Bool, true, false, cond, List, [], ◌∷◌, Option, None, Some, refl, inl, inr, ap, sym, ◌∙◌, arith, subst, zero-add, IfSome, Ok, Err}
 use Rattle.std.proofs.Math.Dec.{eqb-suc-zero}
 use Rattle.tx_io.specs.declared.files.LoadFault.TheVariants.{Failed, TooLong as PastLimit, NoMemory as NoRoom}
 use Rattle.tx_io.specs.declared.send.Sent.{Sent}
@@ -9,11 +9,11 @@ use Rattle.tx_io.specs.Sink.{SinkSeen}
 use Rattle.tx_io.specs.Store.{Answer, LoadGives}
 use Rattle.tx_parse.specs.Texts.{sheet_of}
 use Rattle.tx_parse.proofs.lemmas.TextLaws.{text_sheet}
-use Rattle.tx_app.specs.Openings.{Opening, Stops, Opens, Prints, ComesTo}
+use Rattle.tx_app.specs.Openings.{Opening, Stops, Opens, Prints, Finds, ComesTo}
 use Rattle.tx_app.specs.Loads.{file_limit}
-use Rattle.tx_app.specs.Plan.{Plan, Misuse, Refuse, Read, Open, Print, opening_of, loads_of, AreOfFiles}
-use Rattle.tx_app.specs.Plans.{plan_of, plan_of_words, counted}
-use Rattle.tx_app.specs.Course.{Act, Unmade, Updates, Closes, Writes, IsRefresh, IsCourse, faults_of}
+use Rattle.tx_app.specs.Plan.{Plan, Misuse, Unjudged, Refuse, Read, Open, Print, Find, opening_of, loads_of, AreOfFiles}
+use Rattle.tx_app.specs.Plans.{plan_of, plan_of_words, IsPlanned, counted}
+use Rattle.tx_app.specs.Course.{Act, Unmade, Updates, Closes, Writes, IsRefresh, IsPrinted, IsCourse, faults_of}
 use Rattle.tx_app.specs.Causes.{End, Wanting, Failures, end_of, end_cause, sink_cause, cause_of}
 use Rattle.tx_app.specs.Faults.{CausedBy, IsHeld, Accepts, IsComplete, IsNoneOrMemory, SheetsAreAccepted, read_faults, sink_faults}
 use Rattle.tx_app.specs.Run.{Runs}
@@ -32,9 +32,11 @@ read_failures (Stops (SinkFault rose)) = 0
 read_failures (Stops NoMemory) = 0
 read_failures (Opens scene) = 0
 read_failures (Prints lines) = 0
+read_failures (Finds rows selector) = 0
 
 loads-failures : (plan : Plan) (answers : List Answer) → failed_loads (loads_of plan answers) ≡ read_failures (opening_of plan answers)
 loads-failures Misuse answers = refl
+loads-failures Unjudged answers = refl
 loads-failures (Refuse file line column kind) answers = refl
 loads-failures (Read name limit next) [] = refl
 loads-failures (Read name limit next) (Ok bytes ∷ answers) = zero-add (failed_loads (loads_of (next bytes) answers)) ∙ loads-failures (next bytes) answers
@@ -43,6 +45,7 @@ loads-failures (Read name limit next) (Err PastLimit ∷ answers) = refl
 loads-failures (Read name limit next) (Err NoRoom ∷ answers) = refl
 loads-failures (Open scene) answers = refl
 loads-failures (Print lines) answers = refl
+loads-failures (Find rows selector) answers = refl
 
 -- the count of the files rose by these
 faults-of_loads : (plan : Plan) (answers : List Answer) (before after : FilesSeen) → after ≡ after_loads before (loads_of plan answers)
@@ -58,9 +61,11 @@ OfReading (Stops (SinkFault rose)) = ⊥
 OfReading (Stops NoMemory) = Unit {0}
 OfReading (Opens scene) = Unit {0}
 OfReading (Prints lines) = Unit {0}
+OfReading (Finds rows selector) = Unit {0}
 
 opening-of_reading : (plan : Plan) (answers : List Answer) → OfReading (opening_of plan answers)
 opening-of_reading Misuse answers = tt
+opening-of_reading Unjudged answers = tt
 opening-of_reading (Refuse file line column kind) answers = tt
 opening-of_reading (Read name limit next) [] = tt
 opening-of_reading (Read name limit next) (Ok bytes ∷ answers) = opening-of_reading (next bytes) answers
@@ -69,6 +74,7 @@ opening-of_reading (Read name limit next) (Err PastLimit ∷ answers) = tt
 opening-of_reading (Read name limit next) (Err NoRoom ∷ answers) = tt
 opening-of_reading (Open scene) answers = tt
 opening-of_reading (Print lines) answers = tt
+opening-of_reading (Find rows selector) answers = tt
 
 -- ---- a count that rose
 
@@ -102,11 +108,18 @@ shown-ends (Updates update sent) closed bytes before after is faults = faults �
 shown-ends (Closes sent) closed bytes before after is faults = absurd is
 shown-ends (Writes lines sent) closed bytes before after is faults = absurd is
 
+printed-ends : (lines : List ℕ) (acts : List Act) (before after : ℕ) → IsPrinted lines acts → after ≡ raised before (faults_of acts)
+    → EndsAt (end_of (Failures 0) acts) before after
+printed-ends lines acts before after printed faults =
+    subst (λ (all : List Act). EndsAt (end_of (Failures 0) all) before after) (sym printed.is)
+    (faults ∙ ap (λ (all : List Act). raised before (faults_of all)) printed.is ∙ ap (raised before) (omega arith))
+
 -- what was opened, and is no stop
 abbrev IsOpen : Opening → Type 0
 IsOpen (Stops cause) = ⊥
 IsOpen (Opens scene) = Unit {0}
 IsOpen (Prints lines) = Unit {0}
+IsOpen (Finds rows selector) = Unit {0}
 
 course-ends : (opening : Opening) (acts : List Act) (before after : ℕ) → IsOpen opening → IsCourse opening acts → after ≡ raised before (faults_of acts)
     → EndsAt (end_of (Failures 0) acts) before after
@@ -114,9 +127,8 @@ course-ends (Stops cause) acts before after opened course faults = absurd opened
 course-ends (Opens scene) acts before after opened course faults =
     subst (λ (all : List Act). EndsAt (end_of (Failures 0) all) before after) (sym course.is)
     (shown-ends course.refresh course.closed _ before after course.refreshes (faults ∙ ap (λ (all : List Act). raised before (faults_of all)) course.is))
-course-ends (Prints lines) acts before after opened course faults =
-    subst (λ (all : List Act). EndsAt (end_of (Failures 0) all) before after) (sym course.is)
-    (faults ∙ ap (λ (all : List Act). raised before (faults_of all)) course.is ∙ ap (raised before) (omega arith))
+course-ends (Prints lines) acts before after opened course faults = printed-ends lines acts before after course faults
+course-ends (Finds rows selector) acts before after opened course faults = printed-ends course.lines acts before after course.printed faults
 
 -- ---- a load that failed is the cause
 
@@ -133,6 +145,7 @@ opening-read (Stops (SinkFault rose)) acts before after of is = absurd of
 opening-read (Stops NoMemory) acts before after of is = tt
 opening-read (Opens scene) acts before after of is = end-no_read (end_of (Failures 0) acts) before after
 opening-read (Prints lines) acts before after of is = end-no_read (end_of (Failures 0) acts) before after
+opening-read (Finds rows selector) acts before after of is = end-no_read (end_of (Failures 0) acts) before after
 
 -- want of memory has no such cause, and else it is what was expected
 either : (P : Opening → Type 0) (expected actual : Opening) → ComesTo expected actual → P expected → P (Stops NoMemory) → P actual
@@ -145,11 +158,11 @@ either P expected actual comes here wanting = of comes.wanting comes.is
 pub Runs-read_fault : (words : List (List ℕ)) (files_before files_after : FilesSeen) (before after : SinkSeen) (journal : List Entry) (cause : Option Cause)
     → Runs words files_before files_after before after journal cause → CausedBy (read_faults cause) files_before.faults files_after.faults
 Runs-read_fault words files_before files_after before after journal cause r =
-    let plan : Plan = plan_of_words words in
+    let answers : List Answer = r.reads.answers in
     rw r.cause_is (either (λ opening. CausedBy (read_faults (cause_of opening r.acts)) files_before.faults files_after.faults)
-    (opening_of plan r.answers) r.opening r.comes
-    (opening-read (opening_of plan r.answers) r.acts files_before.faults files_after.faults (opening-of_reading plan r.answers)
-    (faults-of_loads plan r.answers files_before files_after r.loads)) tt)
+    (opening_of r.plan answers) r.opening r.reads.comes
+    (opening-read (opening_of r.plan answers) r.acts files_before.faults files_after.faults (opening-of_reading r.plan answers)
+    (faults-of_loads r.plan answers files_before files_after r.reads.loads)) tt)
 
 -- ---- a put that failed is the cause
 
@@ -166,13 +179,13 @@ opening-sink (Stops (SinkFault rose)) acts before after of course is = absurd of
 opening-sink (Stops NoMemory) acts before after of course is = tt
 opening-sink (Opens scene) acts before after of course is = end-sink (end_of (Failures 0) acts) before after (course-ends (Opens scene) acts before after tt course is)
 opening-sink (Prints lines) acts before after of course is = end-sink (end_of (Failures 0) acts) before after (course-ends (Prints lines) acts before after tt course is)
+opening-sink (Finds rows selector) acts before after of course is = end-sink (end_of (Failures 0) acts) before after (course-ends (Finds rows selector) acts before after tt course is)
 
 pub Runs-sink_fault : (words : List (List ℕ)) (files_before files_after : FilesSeen) (before after : SinkSeen) (journal : List Entry) (cause : Option Cause)
     → Runs words files_before files_after before after journal cause → CausedBy (sink_faults cause) before.faults after.faults
 Runs-sink_fault words files_before files_after before after journal cause r =
-    let plan : Plan = plan_of_words words in
     rw r.cause_is (opening-sink r.opening r.acts before.faults after.faults
-    (either OfReading (opening_of plan r.answers) r.opening r.comes (opening-of_reading plan r.answers) tt) r.course r.faults)
+    (either OfReading (opening_of r.plan r.reads.answers) r.opening r.reads.comes (opening-of_reading r.plan r.reads.answers) tt) r.course r.faults)
 
 -- ---- files that hold all that a plan asks for
 
@@ -185,6 +198,7 @@ Fine (Stops (SinkFault rose)) = ⊥
 Fine (Stops NoMemory) = Unit {0}
 Fine (Opens scene) = Unit {0}
 Fine (Prints lines) = Unit {0}
+Fine (Finds rows selector) = Unit {0}
 
 held-bytes : (content : Option (List ℕ)) (limit : ℕ) (P : List ℕ → Type 0) (bytes : List ℕ) → IsHeld content limit P → LoadGives content limit (Ok bytes) → P bytes
 held-bytes None limit P bytes held gives = absurd held
@@ -197,6 +211,7 @@ held-short (Some all) limit P held gives = omega (arith, held.0, gives)
 accepts-fine : (told : List ℕ → Option (List ℕ)) (plan : Plan) (answers : List Answer) → Accepts told plan → AreOfFiles (Some told) (loads_of plan answers)
     → Fine (opening_of plan answers)
 accepts-fine told Misuse answers accepts of_files = accepts
+accepts-fine told Unjudged answers accepts of_files = tt
 accepts-fine told (Refuse file line column kind) answers accepts of_files = accepts
 accepts-fine told (Read name limit next) [] accepts of_files = tt
 accepts-fine told (Read name limit next) (Ok bytes ∷ answers) accepts of_files =
@@ -207,6 +222,7 @@ accepts-fine told (Read name limit next) (Err PastLimit ∷ answers) accepts of_
 accepts-fine told (Read name limit next) (Err NoRoom ∷ answers) accepts of_files = tt
 accepts-fine told (Open scene) answers accepts of_files = tt
 accepts-fine told (Print lines) answers accepts of_files = tt
+accepts-fine told (Find rows selector) answers accepts of_files = tt
 
 end-free : (end : End) (before after : ℕ) → EndsAt end before after → (Rose before after → ⊥) → IsNoneOrMemory (end_cause end)
 end-free Wanting before after at none = tt
@@ -224,6 +240,8 @@ opening-free (Opens scene) acts files_before files_after before after fine cours
     end-free (end_of (Failures 0) acts) before after (course-ends (Opens scene) acts before after tt course faults) no_sink
 opening-free (Prints lines) acts files_before files_after before after fine course loads faults no_read no_sink =
     end-free (end_of (Failures 0) acts) before after (course-ends (Prints lines) acts before after tt course faults) no_sink
+opening-free (Finds rows selector) acts files_before files_after before after fine course loads faults no_read no_sink =
+    end-free (end_of (Failures 0) acts) before after (course-ends (Finds rows selector) acts before after tt course faults) no_sink
 
 -- where it comes to want of memory nothing is owed, and else it is what was expected
 comes-free : (expected actual : Opening) (acts : List Act) (files_before files_after before after : ℕ) → Fine expected → ComesTo expected actual → IsCourse actual acts
@@ -235,22 +253,27 @@ comes-free expected actual acts files_before files_after before after fine comes
     of true is = rw is tt
     of false is = rw is (opening-free expected acts files_before files_after before after fine (subst (λ opening. IsCourse opening acts) is course) loads faults no_read no_sink)
 
-complete-of : (contents : Option (List ℕ → Option (List ℕ))) (words : List (List ℕ)) (answers : List Answer) (actual : Opening) (acts : List Act)
+planned-fine : (words : List (List ℕ)) (plan : Plan) (told : List ℕ → Option (List ℕ)) (answers : List Answer) → IsPlanned words plan
+    → Accepts told (plan_of_words words) → AreOfFiles (Some told) (loads_of plan answers) → Fine (opening_of plan answers)
+planned-fine words plan told answers (inl is) accepts of_files = accepts-fine told plan answers (subst (Accepts told) (sym is) accepts) of_files
+planned-fine words plan told answers (inr unjudged) accepts of_files = subst (λ p. Fine (opening_of p answers)) (sym unjudged.0) tt
+
+complete-of : (contents : Option (List ℕ → Option (List ℕ))) (words : List (List ℕ)) (plan : Plan) (answers : List Answer) (actual : Opening) (acts : List Act)
     (files_before files_after before after : ℕ) (cause : Option Cause)
-    → AreOfFiles contents (loads_of (plan_of_words words) answers) → ComesTo (opening_of (plan_of_words words) answers) actual → IsCourse actual acts
-    → files_after ≡ raised files_before (read_failures (opening_of (plan_of_words words) answers)) → after ≡ raised before (faults_of acts)
+    → IsPlanned words plan → AreOfFiles contents (loads_of plan answers) → ComesTo (opening_of plan answers) actual → IsCourse actual acts
+    → files_after ≡ raised files_before (read_failures (opening_of plan answers)) → after ≡ raised before (faults_of acts)
     → cause ≡ cause_of actual acts → IfSome contents (λ told. IsComplete words told files_before files_after before after cause)
-complete-of None words answers actual acts files_before files_after before after cause of_files comes course loads faults is = tt
-complete-of (Some told) words answers actual acts files_before files_after before after cause of_files comes course loads faults is = λ accepts no_read no_sink.
-    rw is (comes-free (opening_of (plan_of_words words) answers) actual acts files_before files_after before after
-    (accepts-fine told (plan_of_words words) answers accepts of_files) comes course loads faults no_read no_sink)
+complete-of None words plan answers actual acts files_before files_after before after cause planned of_files comes course loads faults is = tt
+complete-of (Some told) words plan answers actual acts files_before files_after before after cause planned of_files comes course loads faults is = λ accepts no_read no_sink.
+    rw is (comes-free (opening_of plan answers) actual acts files_before files_after before after
+    (planned-fine words plan told answers planned accepts of_files) comes course loads faults no_read no_sink)
 
 pub Runs-complete : (words : List (List ℕ)) (files_before files_after : FilesSeen) (before after : SinkSeen) (journal : List Entry) (cause : Option Cause)
     → Runs words files_before files_after before after journal cause
     → IfSome files_before.contents (λ told. IsComplete words told files_before.faults files_after.faults before.faults after.faults cause)
 Runs-complete words files_before files_after before after journal cause r =
-    complete-of files_before.contents words r.answers r.opening r.acts files_before.faults files_after.faults before.faults after.faults cause
-    r.of_files r.comes r.course (faults-of_loads (plan_of_words words) r.answers files_before files_after r.loads) r.faults r.cause_is
+    complete-of files_before.contents words r.plan r.reads.answers r.opening r.acts files_before.faults files_after.faults before.faults after.faults cause
+    r.planned r.reads.of_files r.reads.comes r.course (faults-of_loads r.plan r.reads.answers files_before files_after r.reads.loads) r.faults r.cause_is
 
 -- ---- a sheet in the grammar
 

@@ -8,13 +8,16 @@ use Rattle.tx_io.specs.Loading.{FilesSeen}
 use Rattle.tx_io.specs.Sending.{Sends, failed_puts}
 use Rattle.tx_io.specs.Sink.{SinkSeen}
 use Rattle.tx_term.specs.Update.{update, closing}
+use Rattle.tx_tree.specs.declared.row.Row.{Row}
+use Rattle.tx_select.specs.SelectorValue.{SelectorValue}
+use Rattle.tx_app.specs.Listing.{ListsMatches}
 use Rattle.tx_app.specs.Scene.{Scene, picture, at_first}
-use Rattle.tx_app.specs.Openings.{Opening, Stops, Opens, Prints, MayWant, ComesTo}
-use Rattle.tx_app.specs.Plan.{Begun, opening_of}
-use Rattle.tx_app.specs.Plans.{plan_of_words}
-use Rattle.tx_app.specs.Course.{Act, Unmade, Updates, Closes, Writes, IsRefresh, act_bytes, act_faults}
+use Rattle.tx_app.specs.Openings.{Opening, Stops, Opens, Prints, Finds, MayWant, ComesTo}
+use Rattle.tx_app.specs.Plan.{opening_of}
+use Rattle.tx_app.specs.Plans.{Planned}
+use Rattle.tx_app.specs.Course.{Act, Unmade, Updates, Closes, Writes, IsRefresh, act_bytes, act_faults, IsCourse}
 use Rattle.tx_app.specs.Journal.{act_entries}
-use Rattle.tx_app.specs.Causes.{Failures, end_cause, end_of, sink_cause}
+use Rattle.tx_app.specs.Causes.{Failures, end_cause, end_of, sink_cause, cause_of}
 use Rattle.tx_app.specs.Refreshing.{Refreshes, entry_cause}
 use Rattle.tx_app.specs.Run.{Does, Runs}
 use Rattle.tx_app.specs.declared.causes.Cause.{Cause}
@@ -110,6 +113,46 @@ Does-print before after lines sent cause sends is = record {
   cause_is = is ∙ ap sink_cause (sym (zero-add (failed_puts sent)));
 }
 
+-- the lines of all matches are sent
+pub Does-list : (before after : SinkSeen) (rows : List Row) (selector : SelectorValue) (lines given : List ℕ) (cause : Option Cause)
+    → ListsMatches rows selector lines → given ≡ lines → Does (Prints given) before after [] [] cause → Does (Finds rows selector) before after [] [] cause
+Does-list before after rows selector lines given cause lists same d = of d.comes.wanting d.comes.is
+  where
+    of : (b : Bool) → d.actual ≡ cond b (Stops NoMemory) (Prints given) → Does (Finds rows selector) before after [] [] cause
+    of true is = record {
+      actual = Stops NoMemory;
+      acts = d.acts;
+      comes = record { wanting = true; is = refl; may = tt };
+      course = subst (λ o. IsCourse o d.acts) is d.course;
+      told = d.told;
+      faults = d.faults;
+      journal = d.journal;
+      cause_is = d.cause_is ∙ ap (λ o. cause_of o d.acts) is;
+    }
+    of false is = record {
+      actual = Finds rows selector;
+      acts = d.acts;
+      comes = record { wanting = false; is = refl; may = tt };
+      course = record { lines = given; lists = subst (ListsMatches rows selector) (sym same) lists; printed = subst (λ o. IsCourse o d.acts) is d.course };
+      told = d.told;
+      faults = d.faults;
+      journal = d.journal;
+      cause_is = d.cause_is ∙ ap (λ o. cause_of o d.acts) is;
+    }
+
+-- memory was wanting for them
+pub Does-unlisted : (before : SinkSeen) (rows : List Row) (selector : SelectorValue) → Does (Finds rows selector) before before [] [] (Some NoMemory)
+Does-unlisted before rows selector = record {
+  actual = Stops NoMemory;
+  acts = [];
+  comes = record { wanting = true; is = refl; may = tt };
+  course = refl;
+  told = append_known-nothing before.told;
+  faults = raised-none before.faults;
+  journal = refl;
+  cause_is = refl;
+}
+
 -- what stopped the run
 pub Does-nothing : (before : SinkSeen) (cause : Cause) → Does (Stops cause) before before [] [] (Some cause)
 Does-nothing before cause = record {
@@ -135,16 +178,20 @@ ComesTo-then first second third a b = of a.wanting b.wanting a.is a.may b.is b.m
     of true true is may next may_next = record { wanting = true; is = next; may = may }
 
 pub Runs-done : (words : List (List ℕ)) (files_before files_after : FilesSeen) (before after : SinkSeen) (opening : Opening) (journal : List Entry) (cause : Option Cause)
-    → Begun files_before files_after (plan_of_words words) opening → Does opening before after [] journal cause
+    → Planned words files_before files_after opening → Does opening before after [] journal cause
     → Runs words files_before files_after before after journal cause
-Runs-done words files_before files_after before after opening journal cause b d = record {
-  answers = b.answers;
+Runs-done words files_before files_after before after opening journal cause p d = record {
+  plan = p.plan;
+  planned = p.planned;
   opening = d.actual;
   acts = d.acts;
-  begins = b.begins;
-  of_files = b.of_files;
-  loads = b.loads;
-  comes = ComesTo-then (opening_of (plan_of_words words) b.answers) opening d.actual b.comes d.comes;
+  reads = record {
+    answers = p.reads.answers;
+    begins = p.reads.begins;
+    of_files = p.reads.of_files;
+    loads = p.reads.loads;
+    comes = ComesTo-then (opening_of p.plan p.reads.answers) opening d.actual p.reads.comes d.comes;
+  };
   course = d.course;
   told = d.told;
   faults = d.faults;

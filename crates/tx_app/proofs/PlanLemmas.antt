@@ -1,18 +1,21 @@
 -- How a plan is followed, load by load.
-use Rattle.std.proofs.Common.{◌≡◌, ℕ, ◌+◌, false, List, [], ◌∷◌, ◌++◌, Option, None, Some, Ok, Err, Vec, refl, ap, sym, ◌∙◌, arith, subst, append_assoc, IfSome}
+use Rattle.std.proofs.Common.{◌≡◌, ℕ, ◌+◌, List, [], ◌∷◌, ◌++◌, Option, None, Some, Result, Ok, Err, Vec, true, false, refl, inl, inr, ap, sym, ◌∙◌, arith, subst, append_assoc, IfSome}
 use Rattle.std.proofs.lemmas.List.{append-nil}
 use Rattle.std.specs.declared.alloc.Global.{Global}
 use Rattle.tx_io.specs.declared.files.LoadFault.TheVariants.{Failed, TooLong as PastLimit, NoMemory as NoRoom}
 use Rattle.tx_io.specs.Faults.{raised}
 use Rattle.tx_io.specs.Loading.{FilesSeen, Load, load_of, append_loads, failed_loads, after_loads}
 use Rattle.tx_io.specs.Store.{Answer, LoadGives}
+use Rattle.tx_tree.specs.declared.row.Row.{Row}
+use Rattle.tx_select.specs.SelectorValue.{SelectorValue}
+use Rattle.tx_app.specs.TreeForm.{Fault}
 use Rattle.tx_app.specs.Openings.{Opening, Stops, ComesTo}
 use Rattle.tx_app.specs.Loads.{file_limit, GivesLoaded, Loads}
-use Rattle.tx_app.specs.Plan.{Plan, Misuse, Refuse, Read, Open, Print, opening_of, loads_of, AreOfFiles, Begun, Follows}
-use Rattle.tx_app.specs.Plans.{plan_of, plan_of_words}
-use Rattle.tx_app.specs.Words.{Task, asked}
+use Rattle.tx_app.specs.Plan.{Plan, Misuse, Unjudged, Refuse, Read, Open, Print, Find, opening_of, loads_of, AreOfFiles, Begun, Follows}
+use Rattle.tx_app.specs.Plans.{plan_of, rows_plan, Planned}
+use Rattle.tx_app.specs.Words.{Task, asked, takes_memory}
 use Rattle.tx_app.specs.declared.causes.Cause.{Cause}
-use Rattle.tx_app.specs.declared.causes.Cause.TheVariants.{Usage}
+use Rattle.tx_app.specs.declared.causes.Cause.TheVariants.{Usage, NoMemory}
 
 -- ---- loads, one behind another
 
@@ -103,10 +106,12 @@ Begun-unread before after name next cause load = of load.answer load.of_files lo
 -- no load is made without an answer
 no_loads : (plan : Plan) → loads_of plan [] ≡ []
 no_loads Misuse = refl
+no_loads Unjudged = refl
 no_loads (Refuse file line column kind) = refl
 no_loads (Read name limit next) = refl
 no_loads (Open scene) = refl
 no_loads (Print lines) = refl
+no_loads (Find rows selector) = refl
 
 none_of_files : (contents : Option (List ℕ → Option (List ℕ))) (loads : List Load) → loads ≡ [] → AreOfFiles contents loads
 none_of_files None loads is = tt
@@ -126,16 +131,36 @@ Follows-begun before after plan actual b = record { answers = b.answers; of_file
 
 -- ---- the words
 
+-- the plan of the words
+pub Planned-task : (before after : FilesSeen) (words : List (List ℕ)) (task : Option Task) (actual : Opening) → task ≡ asked words
+    → Begun before after (plan_of task) actual → Planned words before after actual
+Planned-task before after words task actual asks b = record { plan = plan_of task; planned = inl (ap plan_of asks); reads = b }
+
+-- memory was wanting for a selector
+pub Planned-unjudged : (before : FilesSeen) (words : List (List ℕ)) → takes_memory words ≡ true → Planned words before before (Stops NoMemory)
+Planned-unjudged before words takes = record {
+  plan = Unjudged;
+  planned = inr (refl, takes);
+  reads = record {
+    answers = [];
+    begins = tt;
+    of_files = none_of_files before.contents [] refl;
+    loads = after_loads-none before;
+    comes = record { wanting = false; is = refl; may = tt };
+  };
+}
+
 -- refused words
-pub Begun-misuse : (before : FilesSeen) (words : List (List ℕ)) → None ≡ asked words → Begun before before (plan_of_words words) (Stops Usage)
-Begun-misuse before words refused = subst (λ task. Begun before before (plan_of task) (Stops Usage)) refused (record {
+pub Begun-misuse : (before : FilesSeen) → Begun before before (plan_of None) (Stops Usage)
+Begun-misuse before = record {
   answers = [];
   begins = tt;
   of_files = none_of_files before.contents [] refl;
   loads = after_loads-none before;
   comes = record { wanting = false; is = refl; may = tt };
-})
+}
 
-pub Begun-task : (before after : FilesSeen) (words : List (List ℕ)) (task : Task) (actual : Opening) → Some task ≡ asked words
-    → Begun before after (plan_of (Some task)) actual → Begun before after (plan_of_words words) actual
-Begun-task before after words task actual asks b = subst (λ wanted. Begun before after (plan_of wanted) actual) asks b
+-- memory was wanting for a tree that a selector is for
+pub ComesTo-rows : (name : List ℕ) (selector : SelectorValue) (found : Result (List Row) Fault) → ComesTo (opening_of (rows_plan name selector found) []) (Stops NoMemory)
+ComesTo-rows name selector (Ok rows) = record { wanting = true; is = refl; may = tt }
+ComesTo-rows name selector (Err fault) = record { wanting = true; is = refl; may = tt }

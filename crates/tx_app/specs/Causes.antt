@@ -2,7 +2,7 @@
 use Rattle.std.specs.Prelude.{ℕ, ◌+◌, ◌==◌, List, [], ◌∷◌, Option, Some, None, if◌then◌else◌}
 use Rattle.tx_io.specs.Sending.{failed_puts}
 use Rattle.tx_app.specs.Course.{Act, Unmade, Updates, Closes, Writes}
-use Rattle.tx_app.specs.Openings.{Opening, Stops, Opens, Prints}
+use Rattle.tx_app.specs.Openings.{Opening, Stops, Opens, Prints, Finds}
 use Rattle.tx_app.specs.declared.causes.Cause.{Cause}
 use Rattle.tx_app.specs.declared.causes.Cause.TheVariants.{Usage, Refused, ReadFault, SinkFault, NoMemory}
 
@@ -41,6 +41,7 @@ abbrev pub cause_of : Opening → List Act → Option Cause
 cause_of (Stops cause) acts = Some cause
 cause_of (Opens scene) acts = end_cause (end_of (Failures 0) acts)
 cause_of (Prints lines) acts = end_cause (end_of (Failures 0) acts)
+cause_of (Finds rows selector) acts = end_cause (end_of (Failures 0) acts)
 
 abbrev pub status_of : Option Cause → ℕ
 status_of None = 0

@@ -3,8 +3,11 @@ use Rattle.std.specs.Prelude.{◌≡◌, ◌<◌, ℕ, ◌+◌, true, false, Lis
 use Rattle.tx_io.specs.declared.send.Sent.{Sent}
 use Rattle.tx_io.specs.Sending.{failed_puts}
 use Rattle.tx_term.specs.Update.{update, closing}
+use Rattle.tx_tree.specs.declared.row.Row.{Row}
+use Rattle.tx_select.specs.SelectorValue.{SelectorValue}
+use Rattle.tx_app.specs.Listing.{ListsMatches}
 use Rattle.tx_app.specs.Scene.{Scene, picture, at_first}
-use Rattle.tx_app.specs.Openings.{Opening, Stops, Opens, Prints}
+use Rattle.tx_app.specs.Openings.{Opening, Stops, Opens, Prints, Finds}
 
 pub data Act : Type 0 where
   -- a refresh for which memory was wanting, before its first byte
@@ -63,8 +66,15 @@ pub record IsPrinted (lines : List ℕ) (acts : List Act) : Type 0 where
   pub is : acts ≡ Writes lines sent ∷ []
   pub writes : CanBeSent lines sent
 
+-- a line for each row that the selector matches
+pub record IsListed (rows : List Row) (selector : SelectorValue) (acts : List Act) : Type 0 where
+  pub lines : List ℕ
+  pub lists : ListsMatches rows selector lines
+  pub printed : IsPrinted lines acts
+
 -- what is done; nothing is sent where the reading stops the run
 abbrev pub IsCourse : Opening → List Act → Type 0
 IsCourse (Stops cause) acts = acts ≡ []
 IsCourse (Opens scene) acts = IsShown scene acts
 IsCourse (Prints lines) acts = IsPrinted lines acts
+IsCourse (Finds rows selector) acts = IsListed rows selector acts

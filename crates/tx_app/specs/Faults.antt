@@ -5,7 +5,7 @@ use Rattle.tx_parse.specs.Grammar.{Found}
 use Rattle.tx_parse.specs.Texts.{IsSheetText}
 use Rattle.tx_app.specs.Words.{Checks, asked}
 use Rattle.tx_app.specs.Loads.{file_limit}
-use Rattle.tx_app.specs.Plan.{Plan, Misuse, Refuse, Read, Open, Print}
+use Rattle.tx_app.specs.Plan.{Plan, Misuse, Unjudged, Refuse, Read, Open, Print, Find}
 use Rattle.tx_app.specs.Plans.{plan_of_words}
 use Rattle.tx_app.specs.declared.causes.Cause.{Cause}
 use Rattle.tx_app.specs.declared.causes.Cause.TheVariants.{ReadFault, SinkFault, NoMemory}
@@ -39,10 +39,12 @@ IsHeld (Some bytes) limit rest = (length bytes ≤ limit) × rest bytes
 -- the files hold all that the plan asks for, and nothing there is at fault
 abbrev pub Accepts : (List ℕ → Option (List ℕ)) → Plan → Type 0
 Accepts told Misuse = ⊥
+Accepts told Unjudged = ⊥
 Accepts told (Refuse file line column kind) = ⊥
 Accepts told (Read name limit next) = IsHeld (told name) limit (λ bytes. Accepts told (next bytes))
 Accepts told (Open scene) = Unit {0}
 Accepts told (Print lines) = Unit {0}
+Accepts told (Find rows selector) = Unit {0}
 
 abbrev pub IsComplete : List (List ℕ) → (List ℕ → Option (List ℕ)) → ℕ → ℕ → ℕ → ℕ → Option Cause → Type 0
 IsComplete words told files_before files_after out_before out_after cause =

@@ -4,6 +4,7 @@ pub mod ErrorLine
 pub mod Faults
 pub mod FormFault
 pub mod Journal
+pub mod Listing
 pub mod Loads
 pub mod Openings
 pub mod Plan

@@ -1,16 +1,22 @@
 -- What the reading of the files comes to.
 use Rattle.std.specs.Prelude.{◌≡◌, ℕ, Bool, true, false, List, Result, Ok, Err, if◌then◌else◌}
+use Rattle.tx_tree.specs.declared.row.Row.{Row}
+use Rattle.tx_select.specs.SelectorValue.{SelectorValue}
 use Rattle.tx_app.specs.Scene.{Scene}
 use Rattle.tx_app.specs.declared.openings.Opened.{Opened}
-use Rattle.tx_app.specs.declared.openings.Opened.TheVariants.{Picture, Lines}
+use Rattle.tx_app.specs.declared.openings.Opened.TheVariants.{Picture, Lines, Matches}
 use Rattle.tx_app.specs.declared.causes.Cause.{Cause}
 use Rattle.tx_app.specs.declared.causes.Cause.TheVariants.{Usage, Refused, ReadFault, SinkFault, NoMemory}
 
--- a cause that stops the run, a scene that is shown, or lines that are printed
 pub data Opening : Type 0 where
+  -- a cause stops the run
   Stops : Cause → Opening
+  -- a scene is shown
   Opens : Scene → Opening
+  -- lines are printed
   Prints : List ℕ → Opening
+  -- of these rows those that a selector matches are printed
+  Finds : List Row → SelectorValue → Opening
 
 -- Memory may be wanting, but not where the words are refused or a load failed: no memory is taken for these.
 abbrev pub MayWant : Bool → Opening → Type 0
@@ -22,6 +28,7 @@ MayWant true (Stops (SinkFault rose)) = ⊥
 MayWant true (Stops NoMemory) = Unit {0}
 MayWant true (Opens scene) = Unit {0}
 MayWant true (Prints lines) = Unit {0}
+MayWant true (Finds rows selector) = Unit {0}
 
 -- what is expected, or that memory was wanting for it
 pub record ComesTo (expected actual : Opening) : Type 0 where
@@ -33,4 +40,5 @@ pub record ComesTo (expected actual : Opening) : Type 0 where
 abbrev pub opened_of : Result Opened Cause → Opening
 opened_of (Ok (Picture scene)) = Opens scene
 opened_of (Ok (Lines lines)) = Prints lines.items
+opened_of (Ok (Matches tree selector)) = Finds tree.rows selector
 opened_of (Err cause) = Stops cause

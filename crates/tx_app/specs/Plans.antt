@@ -1,15 +1,20 @@
 -- The plan of each task.
-use Rattle.std.specs.Prelude.{ℕ, ◌+◌, List, ◌++◌, length, Option, Some, None, Result, Ok, Err, codes, decimal}
+use Rattle.std.specs.Prelude.{◌≡◌, ◌⊎◌, true, ℕ, ◌+◌, List, ◌++◌, length, Option, Some, None, Result, Ok, Err, codes, decimal}
 use Rattle.tx_parse.specs.Grammar.{Found}
 use Rattle.tx_parse.specs.Places.{line_of, column_of}
 use Rattle.tx_parse.specs.Texts.{Report, sheet_of}
+use Rattle.tx_tree.specs.declared.row.Row.{Row}
+use Rattle.tx_tree_file.specs.TreeReading.{tree_of}
+use Rattle.tx_select.specs.SelectorValue.{SelectorValue}
 use Rattle.tx_geom.specs.declared.places.Size.{Size}
-use Rattle.tx_app.specs.Words.{Task, Shows, Checks, asked}
-use Rattle.tx_app.specs.TreeForm.{Fault, texts_of, unbuilt}
+use Rattle.tx_app.specs.Words.{Task, Shows, Checks, Queries, asked, takes_memory}
+use Rattle.tx_app.specs.TreeForm.{Fault, rows_or_fault, texts_of, unbuilt}
 use Rattle.tx_app.specs.SheetForm.{looks_of}
 use Rattle.tx_app.specs.Scene.{first_misfit, scene_of}
+use Rattle.tx_io.specs.Loading.{FilesSeen}
+use Rattle.tx_app.specs.Openings.{Opening}
 use Rattle.tx_app.specs.Loads.{file_limit}
-use Rattle.tx_app.specs.Plan.{Plan, Misuse, Refuse, Read, Open, Print}
+use Rattle.tx_app.specs.Plan.{Plan, Misuse, Unjudged, Refuse, Read, Open, Print, Find, Begun}
 use Rattle.tx_app.specs.declared.causes.Refusal.TheVariants.{Sheet, Unbuilt}
 use Rattle.tx_app.specs.declared.sheet_form.Looks.{Looks}
 
@@ -55,11 +60,20 @@ counted name bytes (Err report) = Refuse name (line_of bytes report.1) (column_o
 abbrev pub check_plan : List ℕ → Plan
 check_plan name = Read name file_limit (λ bytes. counted name bytes (sheet_of bytes))
 
+-- ---- the rows that a selector matches
+
+abbrev pub rows_plan : List ℕ → SelectorValue → Result (List Row) Fault → Plan
+rows_plan name selector found = in_form name found (λ rows. Find rows selector)
+
+abbrev pub query_plan : List ℕ → SelectorValue → Plan
+query_plan name selector = Read name file_limit (λ bytes. rows_plan name selector (rows_or_fault (tree_of bytes)))
+
 -- ---- all tasks
 
 abbrev pub task_plan : Task → Plan
 task_plan (Shows show) = show_plan show.size show.tree show.sheet
 task_plan (Checks sheet) = check_plan sheet
+task_plan (Queries tree selector) = query_plan tree selector
 
 abbrev pub plan_of : Option Task → Plan
 plan_of None = Misuse
@@ -68,3 +82,13 @@ plan_of (Some task) = task_plan task
 -- the words, then the files
 abbrev pub plan_of_words : List (List ℕ) → Plan
 plan_of_words words = plan_of (asked words)
+
+-- the plan that is followed: that of the words, or memory was wanting to judge them
+abbrev pub IsPlanned : List (List ℕ) → Plan → Type 0
+IsPlanned words plan = (plan ≡ plan_of_words words) ⊎ ((plan ≡ Unjudged) × (takes_memory words ≡ true))
+
+-- the files were read as the words ask for
+pub record Planned (words : List (List ℕ)) (before after : FilesSeen) (actual : Opening) : Type 0 where
+  pub plan : Plan
+  pub planned : IsPlanned words plan
+  pub reads : Begun before after plan actual

@@ -5,11 +5,10 @@ use Rattle.tx_io.specs.declared.send.Sent.{Sent}
 use Rattle.tx_io.specs.Faults.{raised}
 use Rattle.tx_io.specs.Sending.{Sends}
 use Rattle.tx_io.specs.Sink.{SinkSeen}
-use Rattle.tx_io.specs.Loading.{FilesSeen, after_loads}
-use Rattle.tx_io.specs.Store.{Answer}
+use Rattle.tx_io.specs.Loading.{FilesSeen}
 use Rattle.tx_app.specs.Openings.{Opening, ComesTo}
-use Rattle.tx_app.specs.Plan.{opening_of, loads_of, AreOfFiles, Begins}
-use Rattle.tx_app.specs.Plans.{plan_of_words}
+use Rattle.tx_app.specs.Plan.{Plan, Begun}
+use Rattle.tx_app.specs.Plans.{IsPlanned}
 use Rattle.tx_app.specs.Course.{Act, IsCourse, bytes_of, faults_of}
 use Rattle.tx_app.specs.Journal.{entries_of}
 use Rattle.tx_app.specs.Causes.{cause_of, status_of}
@@ -31,29 +30,25 @@ pub record Does (opening : Opening) (before after : SinkSeen) (journal_before jo
 
 -- The run up to its error line.
 pub record Runs (words : List (List ℕ)) (files_before files_after : FilesSeen) (out_before out_after : SinkSeen) (journal : List Entry) (cause : Option Cause) : Type 0 where
-  pub answers : List Answer
+  pub plan : Plan
+  pub planned : IsPlanned words plan
   pub opening : Opening
   pub acts : List Act
-  pub begins : Begins (plan_of_words words) answers
-  pub of_files : AreOfFiles files_before.contents (loads_of (plan_of_words words) answers)
-  pub loads : files_after ≡ after_loads files_before (loads_of (plan_of_words words) answers)
-  pub comes : ComesTo (opening_of (plan_of_words words) answers) opening
+  pub reads : Begun files_before files_after plan opening
   pub course : IsCourse opening acts
   pub told : out_after.told ≡ append_known out_before.told (bytes_of acts)
   pub faults : out_after.faults ≡ raised out_before.faults (faults_of acts)
   pub journal_is : journal ≡ entries_of acts
   pub cause_is : cause ≡ cause_of opening acts
 
--- The run of these words over these files and sinks. There are answers of the loads, in their order, by which the plan of
--- the words comes to an opening, and acts, from which all else follows.
+-- The run of these words over these files and sinks. There are a plan, an opening that it comes to by the answers of the
+-- loads, and acts, from which all else follows.
 pub record IsRun (words : List (List ℕ)) (files_before files_after : FilesSeen) (out_before out_after err_before err_after : SinkSeen) (outcome : Outcome) : Type 0 where
-  pub answers : List Answer
+  pub plan : Plan
+  pub planned : IsPlanned words plan
   pub opening : Opening
   pub acts : List Act
-  pub begins : Begins (plan_of_words words) answers
-  pub of_files : AreOfFiles files_before.contents (loads_of (plan_of_words words) answers)
-  pub loads : files_after ≡ after_loads files_before (loads_of (plan_of_words words) answers)
-  pub comes : ComesTo (opening_of (plan_of_words words) answers) opening
+  pub reads : Begun files_before files_after plan opening
   pub course : IsCourse opening acts
   pub out : out_after.told ≡ append_known out_before.told (bytes_of acts)
   pub puts : out_after.faults ≡ raised out_before.faults (faults_of acts)

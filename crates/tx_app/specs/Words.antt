@@ -1,8 +1,10 @@
 -- What the words of a command line ask for.
-use Rattle.std.specs.Prelude.{ℕ, ◌≤◌, Bool, true, not, ◌&&◌, nat_le, ◌==◌, List, [], ◌∷◌, length, Option, Some, None, if◌then◌else◌, codes, option_and_then, option_map}
+use Rattle.std.specs.Prelude.{ℕ, ◌≤◌, ◌^◌, Bool, true, false, not, nat_lt, Result, Ok, Err, ◌&&◌, nat_le, ◌==◌, List, [], ◌∷◌, length, Option, Some, None, if◌then◌else◌, codes, option_and_then, option_map}
 use Rattle.std.specs.Str.{bytes_eq}
 use Rattle.tx_geom.specs.declared.places.Size.{Size}
 use Rattle.tx_read.specs.Number.{number_at_most}
+use Rattle.tx_select.specs.SelectorValue.{SelectorValue}
+use Rattle.tx_select.specs.Texts.{selector_of}
 use Rattle.tx_app.specs.declared.words.Task.{Task as TaskRead}
 use Rattle.tx_app.specs.declared.words.Task.TheVariants as task
 
@@ -45,6 +47,8 @@ pub data Task : Type 0 where
   Shows : Show → Task
   -- the counts of a sheet, named by its file
   Checks : List ℕ → Task
+  -- the rows of a tree, named by its file, that a selector matches
+  Queries : List ℕ → SelectorValue → Task
 
 -- the two files and the options of a picture
 abbrev pub shows : List (List ℕ) → Option Task
@@ -57,9 +61,27 @@ abbrev pub checks : List (List ℕ) → Option Task
 checks (sheet ∷ []) = if is_file sheet then Some (Checks sheet) else None
 checks _ = None
 
+-- a text of less than 4 GiB that is a selector
+abbrev pub value_of : {A : Type 0} → Result A ℕ → Option A
+value_of (Ok value) = Some value
+value_of (Err place) = None
+
+abbrev pub selector_in : List ℕ → Option SelectorValue
+selector_in text = if nat_lt (length text) (2 ^ 32) then value_of (selector_of text) else None
+
+-- the file of a tree, and a selector
+abbrev pub queries : List (List ℕ) → Option Task
+queries (tree ∷ selector ∷ []) = if is_file tree then option_map (Queries tree) (selector_in selector) else None
+queries _ = None
+
+-- whether memory is taken to judge the words: where a selector stands among them
+abbrev pub takes_memory : List (List ℕ) → Bool
+takes_memory (_ ∷ mode ∷ words) = bytes_eq mode (codes "query")
+takes_memory _ = false
+
 -- the words behind the program's name: what to do, and to what
 abbrev pub asked : List (List ℕ) → Option Task
-asked (_ ∷ mode ∷ words) = if bytes_eq mode (codes "show") then shows words else if bytes_eq mode (codes "check") then checks words else None
+asked (_ ∷ mode ∷ words) = if bytes_eq mode (codes "show") then shows words else if bytes_eq mode (codes "check") then checks words else if bytes_eq mode (codes "query") then queries words else None
 asked _ = None
 
 -- ---- what their reader answers
@@ -68,8 +90,10 @@ asked _ = None
 abbrev pub task_of : TaskRead → Task
 task_of (task.Show show) = Shows (record { tree = show.tree.now; sheet = show.sheet.now; size = show.size })
 task_of (task.Check sheet) = Checks sheet.now
+task_of (task.Query tree selector) = Queries tree.now selector
 
 -- its screen is within the limits
 abbrev pub IsPossible : TaskRead → Type 0
 IsPossible (task.Show show) = IsScreen show.size
 IsPossible (task.Check sheet) = Unit {0}
+IsPossible (task.Query tree selector) = Unit {0}

@@ -5,6 +5,7 @@ mod causes;
 mod error_line;
 mod journal;
 pub mod laws;
+mod listing;
 mod loads;
 mod openings;
 mod outcome;

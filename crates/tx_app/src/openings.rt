@@ -1,6 +1,8 @@
 //! What is to be done once all is read.
 
 use crate::scene::Scene;
+use tx_select::Selector;
+use tx_tree::Tree;
 
 #[derive(Drop)]
 pub enum Opened {
@@ -8,4 +10,6 @@ pub enum Opened {
     Picture(Scene),
     /// Lines are printed.
     Lines(Vec<u8>),
+    /// The rows that a selector matches are printed.
+    Matches(Tree, Selector),
 }

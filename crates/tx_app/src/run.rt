@@ -5,7 +5,7 @@ ghost use Rattle.tx_app.specs.Causes.{sink_cause};
 ghost use Rattle.tx_app.specs.Course.{Updates};
 ghost use Rattle.tx_app.specs.Faults.{CausedBy, IsComplete, read_faults, sink_faults};
 ghost use Rattle.tx_app.specs.Journal.{act_entries};
-ghost use Rattle.tx_app.specs.Openings.{Opens, Prints, opened_of};
+ghost use Rattle.tx_app.specs.Openings.{Opens, Prints, Finds, opened_of};
 ghost use Rattle.tx_app.specs.Refreshing.{Refreshes, entry_cause};
 ghost use Rattle.tx_app.specs.Run.{IsRun, Runs, Does};
 ghost use Rattle.tx_app.specs.Scene.{at_first};
@@ -13,6 +13,7 @@ ghost use Rattle.tx_term.specs.Update.{closing};
 
 use crate::causes::{Cause, sink_cause, status_of};
 use crate::journal::{Entry, Journal, Refreshed};
+use crate::listing::matching_lines;
 use crate::openings::Opened;
 use crate::outcome::Outcome;
 use crate::plans::open_words;
@@ -20,8 +21,10 @@ use crate::report::report;
 use crate::scene::Scene;
 use std::alloc::Global;
 use tx_cell::{Cell, Grid, Pen};
-use tx_io::{Files, Sent, Sink, send_all};
+use tx_io::{Files, Ledger, Sent, Sink, Steps, send_all};
+use tx_select::Selector;
 use tx_term::{CLOSING, present};
+use tx_tree::Tree;
 
 fn entry_of(sent: Sent) -> Entry
     ensures { result ∷ [] ≡ act_entries (Updates [] sent) }
@@ -114,6 +117,16 @@ fn print<K: Sink>(out: &mut K, lines: &[u8]) -> Option<Cause>
     sink_cause(failures(sent))
 }
 
+/// Sends the lines of the rows that a selector matches.
+fn list<K: Sink>(alloc: Global, tree: &Tree, selector: &Selector, out: &mut K) -> Option<Cause>
+    ensures { Does (Finds tree.now.rows selector.now) (K.seen out.old) (K.seen out.new) [] [] result }
+{
+    match matching_lines(alloc, tree, selector) {
+        Some(lines) => print(out, &lines),
+        None => Some(Cause::NoMemory),
+    }
+}
+
 /// Shows or prints what was opened.
 fn perform<K: Sink>(
     alloc: Global,
@@ -127,6 +140,7 @@ fn perform<K: Sink>(
     match opened {
         Ok(Opened::Picture(scene)) => show(alloc, &scene, out, journal),
         Ok(Opened::Lines(lines)) => print(out, &lines),
+        Ok(Opened::Matches(tree, selector)) => list(alloc, &tree, &selector, out),
         Err(cause) => Some(cause),
     }
 }
@@ -151,17 +165,24 @@ fn run<F: Files, K: Sink>(
 /// `check SHEET` loads the sheet and reads it, and prints how many rules, declarations and variables
 /// it has to `out`, in one line.
 ///
+/// `query TREE SELECTOR` reads the selector, loads the tree and reads it, and prints to `out` for
+/// each row that the selector matches as a run begins, in document order, one line: the number of
+/// its node, its kind and, where it has one, `#` and its id. The first row that can have the focus
+/// has it, where neither it nor an ancestor is disabled, nothing is pointed at, and the theme is
+/// dark. A selector outside its grammar, or one of 4 GiB or more, is refused with the words.
+///
 /// `show TREE SHEET`, with `--width W --height H` behind it or without, sends one whole update of
 /// the picture of the tree under the sheet to `out`, and then the closing bytes, each as far as
 /// `out` takes it. The tree is loaded once, and the sheet once behind a tree in the form. Nothing is
 /// sent before all is read. Where the status isn't 0 a line to `err` says why. No call on `files`
 /// comes after one that failed.
-pub fn top_alone<F: Files, K: Sink, E: Sink>(
+pub fn top_alone<F: Files, K: Sink, E: Sink, L: Ledger>(
     alloc: Global,
     words: &[String],
     files: &mut F,
     out: &mut K,
     err: &mut E,
+    steps: &mut Steps<L>,
 ) -> Outcome
     ensures run { IsRun (map string_bytes words.now)
         (F.seen files.old) (F.seen files.new)
@@ -174,7 +195,11 @@ pub fn top_alone<F: Files, K: Sink, E: Sink>(
     // Words and files in the form, and no rise of a count, give status 0 or want of memory.
     ensures complete { IfSome (F.seen files.old).contents (λ told. IsComplete (map string_bytes words.now) told
         (F.seen files.old).faults (F.seen files.new).faults (K.seen out.old).faults (K.seen out.new).faults result.cause) }
+
+    // No mode ticks yet.
+    ensures ledger { steps.new ≡ steps.old }
 {
+    let _ledger = &steps.ledger;
     let mut journal = Vec::new(alloc);
     let cause = run(alloc, words, files, out, &mut journal);
     report(err, &cause);

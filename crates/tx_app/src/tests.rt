@@ -1,4 +1,5 @@
 mod checks;
+mod queries;
 mod recorded;
 
 use crate::{Cause, Entry, Outcome, Refreshed, Refusal, top_alone};
@@ -7,7 +8,7 @@ use std::alloc::{AllocError, Global};
 use std::process::Abort;
 use std::test::Fail;
 use tx_expect::expect;
-use tx_io::{MemoryFiles, MemorySink};
+use tx_io::{MemoryFiles, MemorySink, Steps, Uncounted};
 use tx_test_kit::{files_of, words_of};
 
 /// What a run is given.
@@ -41,7 +42,7 @@ fn run(rt: &HostRuntime, given: &Given) -> Result<Ran, AllocError> {
     let mut files = given_files(rt.alloc(), given)?;
     let mut out = MemorySink::new(rt.alloc(), given.out_fails.to_vec(rt.alloc())?);
     let mut err = MemorySink::new(rt.alloc(), given.err_fails.to_vec(rt.alloc())?);
-    let outcome = top_alone(rt.alloc(), &words, &mut files, &mut out, &mut err);
+    let outcome = top_alone(rt.alloc(), &words, &mut files, &mut out, &mut err, &mut Steps { ledger: Uncounted });
     Ok(Ran { outcome, out, err })
 }
 
@@ -414,7 +415,7 @@ fn loads<R: Abort>(
     let mut files = Recorded::new(rt, alloc, given_files(alloc, given)?);
     let mut out = MemorySink::new(alloc, Vec::new(alloc));
     let mut err = MemorySink::new(alloc, Vec::new(alloc));
-    let _ = top_alone(alloc, &words, &mut files, &mut out, &mut err);
+    let _ = top_alone(alloc, &words, &mut files, &mut out, &mut err, &mut Steps { ledger: Uncounted });
     expect(files.loads().len() == wanted.len(), "the number of loads")?;
     for (made, (name, given)) in files.loads().iter().zip(wanted) {
         expect(is_load(made, name, *given), "the load")?;

@@ -1,9 +1,11 @@
 //! The words of the command line.
-ghost use Rattle.std.specs.Prelude.{◌≡◌, ◌≤◌, map, option_map, string_bytes, IfSome};
-ghost use Rattle.tx_app.specs.Words.{IsScreen, asked, shows, checks, is_file, side, size_of, task_of, IsPossible};
+ghost use Rattle.std.specs.Prelude.{◌≡◌, ◌≤◌, map, option_map, string_bytes, IfSome, IfOk, OnErr, true};
+ghost use Rattle.tx_app.specs.Words.{IsScreen, asked, shows, checks, queries, selector_in, takes_memory, is_file, side, size_of, task_of, IsPossible};
 
+use std::alloc::{AllocError, Global};
 use tx_geom::Size;
 use tx_read::number_at_most;
+use tx_select::{SelectFault, Selector, read_selector};
 
 /// One picture, of a tree under a sheet.
 #[derive(Drop)]
@@ -19,23 +21,29 @@ pub enum Task<'a> {
     Show(Show<'a>),
     /// The counts of a sheet, named by its file.
     Check(&'a str),
+    /// The rows of a tree, named by its file, that a selector matches.
+    Query(&'a str, Selector),
 }
 
 /// What the words ask for, the program's name before them. None where they are refused.
-pub fn read_words(words: &[String]) -> Option<Task<'_>>
-    ensures asks { option_map task_of result ≡ asked (map string_bytes words.now) }
-    ensures screen { IfSome result IsPossible }
+pub fn read_words(alloc: Global, words: &[String]) -> Result<Option<Task<'_>>, AllocError>
+    ensures asks { IfOk result (λ task. option_map task_of task ≡ asked (map string_bytes words.now)) }
+    ensures screen { IfOk result (λ task. IfSome task IsPossible) }
+    ensures memory { OnErr result (takes_memory (map string_bytes words.now) ≡ true) }
 {
     let [_, mode, files @ ..] = words else {
-        return None;
+        return Ok(None);
     };
     if mode.as_str() == "show" {
-        return shows(files);
+        return Ok(shows(files));
     }
     if mode.as_str() == "check" {
-        return checks(files);
+        return Ok(checks(files));
     }
-    None
+    if mode.as_str() == "query" {
+        return queries(alloc, files);
+    }
+    Ok(None)
 }
 
 /// The two files and the options of a picture.
@@ -69,6 +77,38 @@ fn checks(words: &[String]) -> Option<Task<'_>>
         Some(Task::Check(sheet.as_str()))
     } else {
         None
+    }
+}
+
+/// The selector that a text is. It has less than 4 GiB.
+fn selector_in(alloc: Global, text: &str) -> Result<Option<Selector>, AllocError>
+    ensures { IfOk result (λ selector. selector ≡ selector_in text.now) }
+{
+    if text.len() >= 4_294_967_296 {
+        return Ok(None);
+    }
+    match read_selector(alloc, text) {
+        Ok(selector) => Ok(Some(selector)),
+        Err(SelectFault::Grammar { .. }) => Ok(None),
+        Err(SelectFault::NoMemory) => Err(AllocError),
+    }
+}
+
+/// The file of a tree, and a selector.
+fn queries(alloc: Global, words: &[String]) -> Result<Option<Task<'_>>, AllocError>
+    ensures asks { IfOk result (λ task. option_map task_of task ≡ queries (map string_bytes words.now)) }
+    ensures screen { IfOk result (λ task. IfSome task IsPossible) }
+{
+    let [tree, selector] = words else {
+        return Ok(None);
+    };
+    if !is_file(tree.as_str()) {
+        return Ok(None);
+    }
+    match selector_in(alloc, selector.as_str()) {
+        Ok(Some(selector)) => Ok(Some(Task::Query(tree.as_str(), selector))),
+        Ok(None) => Ok(None),
+        Err(fault) => Err(fault),
     }
 }
 
