@@ -42,7 +42,14 @@ fn run(rt: &HostRuntime, given: &Given) -> Result<Ran, AllocError> {
     let mut files = given_files(rt.alloc(), given)?;
     let mut out = MemorySink::new(rt.alloc(), given.out_fails.to_vec(rt.alloc())?);
     let mut err = MemorySink::new(rt.alloc(), given.err_fails.to_vec(rt.alloc())?);
-    let outcome = top_alone(rt.alloc(), &words, &mut files, &mut out, &mut err, &mut Steps { ledger: Uncounted });
+    let outcome = top_alone(
+        rt.alloc(),
+        &words,
+        &mut files,
+        &mut out,
+        &mut err,
+        &mut Steps { ledger: Uncounted },
+    );
     Ok(Ran { outcome, out, err })
 }
 
@@ -415,7 +422,14 @@ fn loads<R: Abort>(
     let mut files = Recorded::new(rt, alloc, given_files(alloc, given)?);
     let mut out = MemorySink::new(alloc, Vec::new(alloc));
     let mut err = MemorySink::new(alloc, Vec::new(alloc));
-    let _ = top_alone(alloc, &words, &mut files, &mut out, &mut err, &mut Steps { ledger: Uncounted });
+    let _ = top_alone(
+        alloc,
+        &words,
+        &mut files,
+        &mut out,
+        &mut err,
+        &mut Steps { ledger: Uncounted },
+    );
     expect(files.loads().len() == wanted.len(), "the number of loads")?;
     for (made, (name, given)) in files.loads().iter().zip(wanted) {
         expect(is_load(made, name, *given), "the load")?;

@@ -16,12 +16,7 @@ use tx_tree::TreeFault;
 use tx_tree_file::read_tree;
 
 /// The tree in these bytes, with the selector.
-fn open_rows(
-    alloc: Global,
-    name: &str,
-    bytes: &[u8],
-    selector: Selector,
-) -> Result<Opened, Cause>
+fn open_rows(alloc: Global, name: &str, bytes: &[u8], selector: Selector) -> Result<Opened, Cause>
     requires { length bytes.now < 2 ^ 32 }
     ensures { ComesTo (opening_of (rows_plan name.now selector (rows_or_fault (tree_of bytes.now))) []) (opened_of result) }
 {

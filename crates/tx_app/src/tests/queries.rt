@@ -9,17 +9,9 @@ const QUERY: Given<'_> = Given {
     ..STATICS
 };
 
-/// These lines are printed for this selector.
-fn prints(rt: &HostRuntime, tree: &[u8], selector: &str, lines: &str) -> Result<(), Fail> {
-    let words = &["tx", "query", "t.tree", selector];
-    let ran = run(
-        rt,
-        &Given {
-            words,
-            tree,
-            ..QUERY
-        },
-    )?;
+/// These lines are printed.
+fn prints(rt: &HostRuntime, given: &Given, lines: &str) -> Result<(), Fail> {
+    let ran = run(rt, given)?;
     expect(ran.out.taken() == lines.as_bytes(), "the lines")?;
     expect(ran.err.taken().is_empty(), "the error line")?;
     expect(
@@ -31,15 +23,17 @@ fn prints(rt: &HostRuntime, tree: &[u8], selector: &str, lines: &str) -> Result<
 
 #[test]
 fn matches_are_printed(rt: HostRuntime) -> Result<(), Fail> {
-    let cases: [(&str, &str); 5] = [
-        ("#p Widget", "3 Container #q\n4 Button #b\n5 Static #n\n"),
-        (".none", ""),
-        (":focus", "4 Button #b\n"),
-        ("Screen:dark", "1 Screen\n"),
-        (":hover", ""),
+    let cases: [(&[&str], &str); 4] = [
+        (
+            &["tx", "query", "t.tree", "#p Widget"],
+            "3 Container #q\n4 Button #b\n5 Static #n\n",
+        ),
+        (&["tx", "query", "t.tree", ".none"], ""),
+        (&["tx", "query", "t.tree", ":focus"], "4 Button #b\n"),
+        (&["tx", "query", "t.tree", "Screen:dark"], "1 Screen\n"),
     ];
-    for (selector, lines) in cases {
-        prints(&rt, QUERY.tree, selector, lines)?;
+    for (words, lines) in cases {
+        prints(&rt, &Given { words, ..QUERY }, lines)?;
     }
     Ok(())
 }
@@ -47,8 +41,12 @@ fn matches_are_printed(rt: HostRuntime) -> Result<(), Fail> {
 /// The first row that can have the focus has it, unless it is disabled or below a disabled one.
 #[test]
 fn the_first_row_that_may_has_the_focus(rt: HostRuntime) -> Result<(), Fail> {
-    let tree = b"Screen\n  Container disabled\n    Button #a\n  Button #b disabled\n  Meter #c\n  Input #d\n".as_slice();
-    prints(&rt, tree, ":focus", "5 Meter #c\n")
+    let given = Given {
+        words: &["tx", "query", "t.tree", ":focus"],
+        tree: b"Screen\n  Container disabled\n    Button #a\n  Button #b disabled\n  Meter #c\n  Input #d\n",
+        ..QUERY
+    };
+    prints(&rt, &given, "5 Meter #c\n")
 }
 
 #[test]
