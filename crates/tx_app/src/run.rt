@@ -23,7 +23,7 @@ use std::alloc::Global;
 use tx_cell::{Cell, Grid, Pen};
 use tx_io::{Files, Ledger, Sent, Sink, Steps, send_all};
 use tx_select::Selector;
-use tx_term::{CLOSING, present};
+use tx_term::{closing_bytes, present};
 use tx_tree::Tree;
 
 fn entry_of(sent: Sent) -> Entry
@@ -65,7 +65,7 @@ fn refresh<K: Sink>(alloc: Global, scene: &Scene, shown: &mut Grid, out: &mut K)
 fn send_closing<K: Sink>(out: &mut K) -> Sent
     ensures { Sends (K.seen out.old) (K.seen out.new) closing result }
 {
-    send_all(out, CLOSING)
+    send_all(out, closing_bytes())
 }
 
 fn failures(sent: Sent) -> u64

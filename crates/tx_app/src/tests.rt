@@ -1,4 +1,5 @@
 mod checks;
+mod host;
 mod queries;
 mod recorded;
 

@@ -13,4 +13,4 @@ mod tests;
 mod update;
 
 pub use machine::Terminal;
-pub use update::{CLOSING, closing_bytes, present};
+pub use update::{closing_bytes, present};

@@ -1,6 +1,6 @@
 ghost use Rattle.std.specs.Prelude.{◌<◌, None};
 
-use crate::{CLOSING, Terminal, closing_bytes, present};
+use crate::{Terminal, closing_bytes, present};
 use std::alloc::AllocError;
 use std::test::Fail;
 use tx_cell::{Cell, Grid, Pen, TextStyle};
@@ -92,7 +92,6 @@ fn a_whole_update_begins_anew(rt: HostRuntime) -> Result<(), Fail> {
         terminal.feed(sink.taken());
         assert!(rt; show_the_same(terminal.grid(), &next));
         assert!(rt; terminal.alternate() && !terminal.cursor_shown());
-        assert_eq!(rt; CLOSING, closing_bytes());
         send_all(&mut sink, closing_bytes());
         terminal.feed(closing_bytes());
         assert!(rt; terminal.cursor_shown() && !terminal.alternate());

@@ -16,7 +16,7 @@ use tx_io::{Sent, Sink};
 use writer::Writer;
 
 /// The bytes of [`closing_bytes`].
-pub const CLOSING: &[u8; 19] = b"\x18\x1b[0m\x1b[?25h\x1b[?1049l";
+const CLOSING: &[u8; 19] = b"\x18\x1b[0m\x1b[?25h\x1b[?1049l";
 
 /// CAN, the default pen, the cursor and the main screen: what is sent at the end, to give the
 /// terminal back. These are 19 bytes.
