@@ -6,7 +6,7 @@ use crate::{
 };
 use std::alloc::{AllocError, Global};
 use std::test::Fail;
-use tx_expect::expect;
+use tx_expect::{each_line, expect};
 
 // A row of a kind with an id.
 fn named(alloc: Global, kind: Kind, id: &str) -> NewRow {
@@ -645,6 +645,75 @@ fn kinds_have_names_and_fresh_states() -> Result<(), Fail> {
     let meter = Kind::Handed(Name::of("Meter").ok_or("a name")?);
     expect(meter.name() == "Meter", "a name that is handed in")?;
     expect(Private::fresh(meter, 5) == Private::Plain, "and its state")
+}
+
+/// The base by which a type selector names a kind.
+fn base_of(kind: Kind) -> &'static str {
+    if kind.is_called("Static") {
+        "Static"
+    } else if kind.is_called("Custom") {
+        "Custom"
+    } else if kind.is_called("Widget") {
+        "Widget"
+    } else {
+        "none"
+    }
+}
+
+/// The form of private states that a kind has.
+fn form_of(kind: Kind) -> &'static str {
+    match Private::fresh(kind, 9) {
+        Private::Plain => "plain",
+        Private::Cursor(_) => "cursor",
+        Private::On(_) => "on",
+        Private::Chosen(_) => "chosen",
+        Private::Bar { .. } => "bar",
+    }
+}
+
+fn kind_text(alloc: Global, name: &str) -> Result<String, Fail> {
+    let kind = match Kind::named(name) {
+        Some(kind) => kind,
+        None => Kind::Handed(Name::of(name).ok_or("a name")?),
+    };
+    let base = base_of(kind);
+    let children = if kind.holds_children() {
+        "children"
+    } else {
+        "-"
+    };
+    let focus = if kind.can_focus() { "focus" } else { "-" };
+    let form = form_of(kind);
+    let fresh = Private::fresh(kind, 9);
+    expect(fresh.has_form(kind), "the form")?;
+    let name = kind.name();
+    let text = format!(in alloc; "{name} {base} {children} {focus} {form}")?;
+    Ok(text)
+}
+
+#[test]
+fn each_kind_has_its_row(rt: HostRuntime) -> Result<(), Fail> {
+    let alloc = rt.alloc();
+    each_line(
+        "\
+Screen => Screen Widget children - plain\n\
+Container => Container Widget children - plain\n\
+Vertical => Vertical Widget children - plain\n\
+Horizontal => Horizontal Widget children - plain\n\
+Grid => Grid Widget children - plain\n\
+VerticalScroll => VerticalScroll Widget children focus plain\n\
+Static => Static Static - - plain\n\
+Label => Label Static - - plain\n\
+Button => Button Widget - focus plain\n\
+Checkbox => Checkbox Widget - focus on\n\
+Input => Input Widget - focus cursor\n\
+OptionList => OptionList Widget - focus chosen\n\
+ProgressBar => ProgressBar Widget - - bar\n\
+Header => Header Widget - - plain\n\
+Footer => Footer Widget - - plain\n\
+Meter => Meter Custom - focus plain",
+        |given| kind_text(alloc, given),
+    )
 }
 
 #[test]
