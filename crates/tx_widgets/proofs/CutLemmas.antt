@@ -1,8 +1,8 @@
 -- How cells are cut where no wide cell is.
-use Rattle.std.proofs.Common.{◌≡◌, ◌+◌, ◌-◌, ◌<◌, ◌≤◌, ℕ, suc, zero, min, List, [], ◌∷◌, ◌++◌, length, map, take, drop, length-take, length-drop, length-append, replicate, Bool, true, false, if◌then◌else◌, refl, sym, ap, ap₂, ◌∙◌, arith, append-nil}
-use Rattle.std.proofs.lemmas.List.{take-replicate, drop-replicate, length-replicate, replicate-append-replicate, take_at, drop_at, take_all, take_min, drop_all, nil_from_length}
+use Rattle.std.proofs.Common.{◌≡◌, ◌+◌, ◌-◌, ◌≤◌, ℕ, suc, zero, min, List, [], ◌∷◌, ◌++◌, length, map, take, drop, length-take, length-drop, length-append, replicate, refl, sym, ap, ap₂, ◌∙◌, arith}
+use Rattle.std.proofs.lemmas.List.{take-replicate, length-replicate, replicate-append-replicate, take_min, nil_from_length}
 use Rattle.tx_cell.specs.Cell.{CellValue, blank, shown}
-use Rattle.tx_cell.specs.Strip.{cropped, cut_end, cut_front, without_head, without_tail}
+use Rattle.tx_cell.specs.Strip.{cropped, cut_end, cut_front}
 use Rattle.tx_cell.specs.declared.pen.Pen.{Pen}
 use Rattle.tx_widgets.specs.Columns.{blanks, window}
 

@@ -2,12 +2,11 @@
 use Rattle.std.proofs.Common.{◌≡◌, ◌+◌, ◌-◌, ◌<◌, ◌≤◌, ℕ, suc, zero, min, List, [], ◌∷◌, ◌++◌, length, take, drop, length-append, length-drop, Bool, true, false, if◌then◌else◌, refl, sym, ap, ap₂, ◌∙◌, arith, append_assoc, append-nil}
 use Rattle.std.proofs.lemmas.Grind.{flat_map-append}
 use Rattle.std.proofs.lemmas.List.{take_at, drop_at, take_all, drop-append-le, take_rest}
-use Rattle.std.specs.List.{flat_map}
 use Rattle.std.specs.Option.{option_map_or}
 use Rattle.std.specs.Prelude.{Option, Some, None, nat_lt}
 use Rattle.unicode_segmentation.specs.Grapheme.{graphemes}
-use Rattle.tx_cell.specs.Cell.{CellValue, IsMade, blank, cell_of, tail_of}
-use Rattle.tx_cell.specs.Strip.{cluster_columns, cropped, cut_end, cut_front, line_cells, with_tail, without_head, without_tail}
+use Rattle.tx_cell.specs.Cell.{CellValue, blank, cell_of}
+use Rattle.tx_cell.specs.Strip.{cluster_columns, cropped, cut_end, cut_front, line_cells, with_tail, without_head}
 use Rattle.tx_cell.proofs.lemmas.MadeCells.{cell_of-IsMade}
 use Rattle.tx_cell.specs.declared.pen.Pen.{Pen}
 use Rattle.tx_widgets.specs.Columns.{blanks, reversed, window}
@@ -168,7 +167,7 @@ marked-parts pen mark before rest cluster plain marked column n plain_is marked_
     third =
         let front = cells_of_clusters pen before ++ cluster_columns pen cluster in
         let cells = plain_is ∙ sym (append_assoc (cells_of_clusters pen before) (cluster_columns pen cluster) (cells_of_clusters pen rest))
-            ∙ ap (λ back. front ++ back) (sym (append-nil (cells_of_clusters pen rest))) in
+        ∙ ap (λ back. front ++ back) (sym (append-nil (cells_of_clusters pen rest))) in
         let long = length-append (cells_of_clusters pen before) (cluster_columns pen cluster) in
         let from : column + n ≡ length front = omega (arith, long, column_is, n_is) in
         let sum = ap length cells ∙ length-append front (cells_of_clusters pen rest ++ []) ∙ ap (λ back. length front + length back) (append-nil (cells_of_clusters pen rest)) in
@@ -347,9 +346,9 @@ pub field-marked : (focused : Bool) (at : ℕ) (pen mark : Pen) (text : List ℕ
 field-marked focused at pen mark text plain marked cells column n first width is_focused plain_is marked_is mark_is here column_is first_is cells_is =
     let red = marked_is ∙ ap (λ p. line_cells text p) mark_is in
     let all = cells_is
-        ∙ ap (λ p. cropped p 0 column ++ (cropped marked column (column + n) ++ cropped p (column + n) (length p))) plain_is
-        ∙ ap (λ m. cropped (line_cells text pen) 0 column ++ (cropped m column (column + n) ++ cropped (line_cells text pen) (column + n) (length (line_cells text pen)))) red
-        ∙ ap (λ k. cropped (line_cells text pen) 0 k ++ (cropped (line_cells text (reversed pen)) k (k + n) ++ cropped (line_cells text pen) (k + n) (length (line_cells text pen)))) column_is
-        ∙ marked-cells at pen text n here in
+    ∙ ap (λ p. cropped p 0 column ++ (cropped marked column (column + n) ++ cropped p (column + n) (length p))) plain_is
+    ∙ ap (λ m. cropped (line_cells text pen) 0 column ++ (cropped m column (column + n) ++ cropped (line_cells text pen) (column + n) (length (line_cells text pen)))) red
+    ∙ ap (λ k. cropped (line_cells text pen) 0 k ++ (cropped (line_cells text (reversed pen)) k (k + n) ++ cropped (line_cells text pen) (k + n) (length (line_cells text pen)))) column_is
+    ∙ marked-cells at pen text n here in
     ap₂ (λ k c. window k width pen c) (first_is ∙ ap (λ k. k + 1 - width) column_is) all
     ∙ ap (λ f. field_row f at width pen text) (sym is_focused)

@@ -1,5 +1,5 @@
 -- The lines of a text are no longer than it, and hardly more than its bytes.
-use Rattle.std.proofs.Common.{◌≡◌, ◌-◌, ◌+◌, ◌<◌, ◌≤◌, ℕ, suc, List, [], ◌∷◌, length, take, length-take, slice_index, cond, if◌then◌else◌, Bool, true, false, refl, sym, ap, subst, ◌∙◌, arith}
+use Rattle.std.proofs.Common.{◌≡◌, ◌-◌, ◌+◌, ◌<◌, ◌≤◌, ℕ, suc, List, [], ◌∷◌, length, take, length-take, slice_index, cond, if◌then◌else◌, Bool, true, false, refl, sym, ap, subst, arith}
 use Rattle.std.proofs.lemmas.List.Elements.{All-nil, All-cons, All-head, All-tail, All-weaker}
 use Rattle.std.specs.List.{All, slice_split, onto_first}
 use Rattle.std.proofs.lemmas.Option.{get_or_from_slice_get, slice_get_within}

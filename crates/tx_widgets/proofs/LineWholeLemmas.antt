@@ -1,13 +1,13 @@
 -- A text of one line that has the columns that it wants is drawn whole.
-use Rattle.std.proofs.Common.{◌≡◌, ◌+◌, ◌-◌, ◌*◌, ◌/◌, ◌<◌, ◌≤◌, ℕ, suc, zero, min, max, List, [], ◌∷◌, ◌++◌, length, map, length-append, Bool, true, false, ◌&&◌, ◌||◌, if◌then◌else◌, refl, sym, ap, ap₂, subst, ◌∙◌, arith, append-nil}
+use Rattle.std.proofs.Common.{◌≡◌, ◌+◌, ◌-◌, ◌<◌, ◌≤◌, ℕ, suc, zero, min, max, List, [], ◌∷◌, ◌++◌, length, map, length-append, Bool, true, false, refl, sym, ap, ◌∙◌, arith, append-nil}
 use Rattle.std.proofs.lemmas.Bool.{eqb-true, le-leb, ne_eqb}
 use Rattle.std.proofs.lemmas.List.{nil_from_length}
 use Rattle.std.proofs.lemmas.List.Sums.{sum_by-cons}
 use Rattle.std.specs.List.{cons_option, filter_map, flat_map}
 use Rattle.std.specs.Option.{option_map, option_map_or}
-use Rattle.std.specs.Prelude.{Option, Some, None, ◌==◌, nat_le, nat_lt, slice_get}
+use Rattle.std.specs.Prelude.{Option, Some, None, ◌==◌, nat_lt, slice_get}
 use Rattle.unicode_segmentation.specs.Grapheme.{graphemes}
-use Rattle.tx_cell.specs.Cell.{CellValue, cell_of, replacement}
+use Rattle.tx_cell.specs.Cell.{CellValue, cell_of}
 use Rattle.tx_cell.specs.Lines.{text_lines}
 use Rattle.tx_cell.specs.Strip.{cluster_columns, line_cells, with_tail}
 use Rattle.tx_cell.specs.Wrap.{columns, line_heads, lines_until, narrowed, with_tails, wrapped, wrapped_line}
@@ -24,9 +24,9 @@ use Rattle.tx_widgets.specs.Columns.{blanks, window}
 use Rattle.tx_widgets.specs.Drawing.{drawn_row, face_lines, lines_row, row_by}
 use Rattle.tx_widgets.specs.Field.{cells_of_clusters}
 use Rattle.tx_widgets.specs.Form.{state_of}
-use Rattle.tx_widgets.specs.Laws.{HasAll, HasItsWidth, LinesAreWhole, ShowsAll, draws_lines, texts}
-use Rattle.tx_widgets.specs.Measures.{most, wanted_width}
-use Rattle.tx_widgets.specs.TextRows.{halves_down, placed, start_column, top_row, widest_of}
+use Rattle.tx_widgets.specs.Laws.{LinesAreWhole, ShowsAll, draws_lines}
+use Rattle.tx_widgets.specs.Measures.{wanted_width}
+use Rattle.tx_widgets.specs.TextRows.{start_column, top_row, widest_of}
 use Rattle.tx_widgets.specs.declared.drawing.face.Face.{Face}
 use Rattle.tx_widgets.proofs.FieldLemmas.{cut_end-line, cut_front-line}
 use Rattle.tx_widgets.proofs.PenLemmas.{length-with_tail_width}
@@ -152,9 +152,9 @@ whole-some face line is one rows same some =
       row = top;
       inside = top-inside face.align.1 face.content.height rows;
       all = HasAll-parts [] l (blanks (face.content.width - length l) face.pen) (drawn_row face top)
-      (lines-drawn face top is ∙ ap (λ ls. lines_row face ls top) lines ∙ sym row
-      ∙ ap (λ n. window 0 n face.pen l) all
-      ∙ window-all face.content.width face.pen l (cut_front-line line face.pen) (cut_end-line line face.pen) fits);
+          (lines-drawn face top is ∙ ap (λ ls. lines_row face ls top) lines ∙ sym row
+          ∙ ap (λ n. window 0 n face.pen l) all
+          ∙ window-all face.content.width face.pen l (cut_front-line line face.pen) (cut_end-line line face.pen) fits);
     }
 
 whole-none : (face : Face) (cells : List CellValue) → 0 < face.content.height → cells ≡ [] → ShowsAll face cells

@@ -2,7 +2,7 @@
 use Rattle.std.proofs.Common.{◌≡◌, ◌-◌, ◌+◌, ◌≤◌, ℕ, min, suc, List, [], ◌∷◌, ◌++◌, Bool, true, false, length, refl, sym, ap, ap₂, ◌∙◌, add-one, arith}
 use Rattle.std.proofs.lemmas.Bool.{le-ltb}
 use Rattle.std.specs.Option.{option_map_or}
-use Rattle.std.specs.Prelude.{Some, None, ◌==◌, slice_get, if◌then◌else◌}
+use Rattle.std.specs.Prelude.{Some, None, ◌==◌, slice_get}
 use Rattle.tx_cell.specs.Cell.{CellValue}
 use Rattle.tx_cell.specs.Lines.{text_lines}
 use Rattle.tx_cell.specs.Strip.{line_cells}

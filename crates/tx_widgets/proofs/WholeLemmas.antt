@@ -1,29 +1,23 @@
 -- A text that has the columns that it wants is drawn whole.
-use Rattle.std.proofs.Common.{◌≡◌, ◌+◌, ◌-◌, ◌*◌, ◌/◌, ◌<◌, ◌≤◌, ℕ, suc, zero, min, max, List, [], ◌∷◌, ◌++◌, length, map, take, length-append, Bool, true, false, ◌&&◌, ◌||◌, if◌then◌else◌, refl, sym, ap, ap₂, subst, ◌∙◌, arith, append_assoc, append-nil}
-use Rattle.std.proofs.lemmas.Bool.{eqb-true, le-leb, ne_eqb}
-use Rattle.std.proofs.lemmas.List.{length-map, map-append, nil_from_length, take_all}
-use Rattle.std.proofs.lemmas.List.Sums.{sum_by-cons}
-use Rattle.std.specs.List.{cons_option, filter_map, flat_map}
-use Rattle.std.specs.Option.{option_map, option_map_or}
-use Rattle.std.specs.Prelude.{Option, Some, None, ◌==◌, nat_le, nat_lt, slice_get}
+use Rattle.std.proofs.Common.{◌≡◌, ◌+◌, ◌-◌, ◌≤◌, ℕ, List, [], ◌∷◌, ◌++◌, length, length-append, Bool, true, false, ◌||◌, if◌then◌else◌, refl, sym, ap, subst, ◌∙◌, arith, append_assoc, append-nil}
+use Rattle.std.proofs.lemmas.List.{length-map, map-append, take_all}
+use Rattle.std.specs.Option.{option_map_or}
+use Rattle.std.specs.Prelude.{Some, None, ◌==◌, nat_lt}
 use Rattle.std.specs.Str.{chars}
 use Rattle.unicode_segmentation.specs.Grapheme.{graphemes}
 use Rattle.unicode_width.specs.Width.{str_width}
 use Rattle.tx_cell.specs.Cell.{CellValue, blank, cell_of, cell_of_clusters, cluster_cell, is_tab, is_unfit, most_bytes, replacement, shown}
 use Rattle.tx_cell.specs.Lines.{text_lines}
 use Rattle.tx_cell.specs.Strip.{cluster_columns, cut_end, cut_front, line_cells, with_tail}
-use Rattle.tx_cell.specs.Wrap.{columns, line_heads, lines_until, narrowed, next_line, with_tails, wrapped, wrapped_line}
-use Rattle.tx_cell.proofs.lemmas.MadeCells.{cell_of-IsMade}
 use Rattle.tx_cell.specs.declared.pen.Pen.{Pen}
 use Rattle.tx_tree.specs.declared.kind.Kind.{Kind}
-use Rattle.tx_tree.specs.declared.kind.Kind.TheVariants.{Static, Label, Button, Checkbox, Input, Header, Footer}
-use Rattle.tx_tree.specs.declared.kind.Private.{Private}
+use Rattle.tx_tree.specs.declared.kind.Kind.TheVariants.{Checkbox, Input}
 use Rattle.tx_widgets.specs.Columns.{blanks, reversed, window}
-use Rattle.tx_widgets.specs.Drawing.{ascii_cells, box_is_on, box_row, box_text, cursor_of, drawn_row, face_lines, first_of, first_row, lines_row, row_by}
+use Rattle.tx_widgets.specs.Drawing.{ascii_cells, box_is_on, box_row, box_text, cursor_of, drawn_row, first_of, row_by}
 use Rattle.tx_widgets.specs.Field.{cells_from_cursor, cells_of_clusters, clusters_before, clusters_from, cursor_column, field_cells, field_row}
 use Rattle.tx_widgets.specs.Form.{state_of}
-use Rattle.tx_widgets.specs.Laws.{BoxesAreWhole, FieldsAreWhole, HasAll, HasItsWidth, ShowsAll, texts}
-use Rattle.tx_widgets.specs.Measures.{box_width, field_width, most, wanted_width}
+use Rattle.tx_widgets.specs.Laws.{BoxesAreWhole, FieldsAreWhole, HasAll, texts}
+use Rattle.tx_widgets.specs.Measures.{box_width, field_width, wanted_width}
 use Rattle.tx_widgets.specs.declared.drawing.face.Face.{Face}
 use Rattle.tx_widgets.proofs.CutLemmas.{front-ascii, window-first}
 use Rattle.tx_widgets.proofs.FieldLemmas.{column-inside, cut_end-both, cut_end-clusters, cut_end-line, cut_front-clusters, cut_front-line, end_of, front_of, line-split}
@@ -75,7 +69,7 @@ boxes-whole face is fits =
       row = 0;
       inside = fits.some;
       all = HasAll-parts _ (line_cells (first_of (text_lines face.text.now)) face.pen) _ (drawn_row face 0)
-      (first-drawn face Checkbox is ∙ box-whole (box_is_on (state_of face.kind face.text.now face.private)) face.content.width face.pen face.text.now enough);
+          (first-drawn face Checkbox is ∙ box-whole (box_is_on (state_of face.kind face.text.now face.private)) face.content.width face.pen face.text.now enough);
     }
 
 -- the texts of a cluster's cells don't depend on the pen
@@ -198,5 +192,5 @@ fields-whole face is fits =
       row = 0;
       inside = fits.some;
       all = subst (HasAll (line_cells face.text.now face.pen)) (sym (first-drawn face Input is))
-      (field-whole face.focused (cursor_of (state_of face.kind face.text.now face.private)) face.content.width face.pen face.text.now enough);
+          (field-whole face.focused (cursor_of (state_of face.kind face.text.now face.private)) face.content.width face.pen face.text.now enough);
     }

@@ -6,9 +6,9 @@ use Rattle.tx_cell.specs.Strip.{line_cells}
 use Rattle.tx_cell.specs.Wrap.{wrapped_text}
 use Rattle.tx_cell.specs.declared.pen.Pen.{Pen}
 use Rattle.tx_tree.specs.declared.kind.Kind.{Kind}
-use Rattle.tx_tree.specs.declared.kind.Kind.TheVariants.{Screen, Container, Vertical, Horizontal, Grid, VerticalScroll, Static, Label, Button, Checkbox, Input, OptionList, ProgressBar, Header, Footer, Handed}
+use Rattle.tx_tree.specs.declared.kind.Kind.TheVariants.{Static, Label, Button, Checkbox, Input, OptionList, ProgressBar, Header, Footer}
 use Rattle.tx_tree.specs.declared.kind.Private.{Private}
-use Rattle.tx_tree.specs.declared.kind.Private.TheVariants.{Plain, Cursor, On, Chosen, Bar}
+use Rattle.tx_tree.specs.declared.kind.Private.TheVariants.{Cursor, On, Chosen, Bar}
 use Rattle.tx_widgets.specs.Columns.{blanks, window}
 use Rattle.tx_widgets.specs.Field.{field_row}
 use Rattle.tx_widgets.specs.Form.{state_of}

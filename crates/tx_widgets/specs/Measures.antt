@@ -5,7 +5,7 @@ use Rattle.tx_cell.specs.Strip.{line_cells}
 use Rattle.tx_cell.specs.Wrap.{wrapped_text}
 use Rattle.tx_cell.specs.declared.pen.Pen.{Pen}
 use Rattle.tx_tree.specs.declared.kind.Kind.{Kind}
-use Rattle.tx_tree.specs.declared.kind.Kind.TheVariants.{Screen, Container, Vertical, Horizontal, Grid, VerticalScroll, Static, Label, Button, Checkbox, Input, OptionList, ProgressBar, Header, Footer, Handed}
+use Rattle.tx_tree.specs.declared.kind.Kind.TheVariants.{Static, Label, Button, Checkbox, Input, OptionList, ProgressBar, Header, Footer}
 use Rattle.tx_widgets.specs.Drawing.{first_of}
 
 -- the greatest measure: a greater number counts as this one

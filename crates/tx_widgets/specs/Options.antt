@@ -1,5 +1,5 @@
 -- The rows of an OptionList.
-use Rattle.std.specs.Prelude.{ℕ, ◌+◌, ◌-◌, ◌==◌, Bool, List, length, slice_get, if◌then◌else◌}
+use Rattle.std.specs.Prelude.{ℕ, ◌+◌, ◌-◌, ◌==◌, Bool, List, slice_get, if◌then◌else◌}
 use Rattle.std.specs.Option.{option_map_or}
 use Rattle.tx_cell.specs.Cell.{CellValue}
 use Rattle.tx_cell.specs.Strip.{line_cells}

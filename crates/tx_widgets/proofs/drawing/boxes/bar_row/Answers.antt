@@ -1,4 +1,4 @@
-use Rattle.std.proofs.Common.{◌-◌, length-append, ◌∙◌, arith}
+use Rattle.std.proofs.Common.{◌-◌, ◌∙◌, arith}
 use Rattle.std.proofs.lemmas.List.{length-replicate}
 use Rattle.tx_widgets.specs.Drawing.{thick, thin}
 use Rattle.tx_widgets.proofs.ResultLemmas.{ok_length}

@@ -9,7 +9,7 @@ use Rattle.tx_widgets.proofs.drawing.boxes.box_row.Goals as goal
 pub cells_of-requires-2 : goal.cells_of-requires-2
 cells_of-requires-2 c = record {
   short = subst (λ line. length line < 2 ^ 32) (sym c.first_line.ensures)
-  (first-short (2 ^ 32) (text_lines c.args.text.now) (lit< tt) (text_lines-short (2 ^ 32) c.args.text.now c.requires.short));
+      (first-short (2 ^ 32) (text_lines c.args.text.now) (lit< tt) (text_lines-short (2 ^ 32) c.args.text.now c.requires.short));
 }
 
 pub returns-clause-row : goal.returns-clause-row
