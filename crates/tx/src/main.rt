@@ -32,7 +32,15 @@ fn status(rt: &HostRuntime) -> u8 {
             let mut out = WriterSink::new(rt.stdout());
             let mut err = WriterSink::new(rt.stderr());
             let mut steps = Steps { ledger: Uncounted };
-            top_alone(rt.alloc(), &words, &mut files, &mut out, &mut err, &mut steps).status
+            top_alone(
+                rt.alloc(),
+                &words,
+                &mut files,
+                &mut out,
+                &mut err,
+                &mut steps,
+            )
+            .status
         }
         Err(status) => status,
     }
