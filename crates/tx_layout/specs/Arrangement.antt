@@ -163,15 +163,15 @@ wide_flow meaning main basis e cs = sized meaning main (basis_of (inside e basis
 unfoldable pub wide_layer : (Ask → Option ℕ) → Option Axis → Basis → List Child → Result ℕ Axis
 wide_layer meaning main basis cs =
     wide_docked meaning basis cs >>= (λ ds.
-      wide_flow meaning main basis (side_edges ds) cs >>= (λ fs.
-        Ok ((side_edges ds).left + (side_edges ds).right + extent main Width fs)))
+    wide_flow meaning main basis (side_edges ds) cs >>= (λ fs.
+    Ok ((side_edges ds).left + (side_edges ds).right + extent main Width fs)))
 
 -- the height that it asks for: its top and bottom edge, and the extent of the flow between them
 unfoldable pub tall_layer : (Ask → Option ℕ) → Option Axis → Basis → List Child → Result ℕ Axis
 tall_layer meaning main basis cs =
     laid_docked meaning basis cs >>= (λ ds.
-      laid_flow meaning main basis (edges_of ds) cs >>= (λ fs.
-        Ok ((edges_of ds).top + (edges_of ds).bottom + extent main Height fs)))
+    laid_flow meaning main basis (edges_of ds) cs >>= (λ fs.
+    Ok ((edges_of ds).top + (edges_of ds).bottom + extent main Height fs)))
 
 -- the greater of a number and what a layer asks for
 abbrev pub greater : (List Child → Result ℕ Axis) → List Child → ℕ → Result ℕ Axis

@@ -140,7 +140,12 @@ fn docked_region(child: &Child, area: Size, count: u32) -> Region
     requires { IsChild count child.now }
     ensures { result ≡ docked_region area child.now }
 {
-    region_at(docked_x(child, area, count), docked_y(child, area, count), child, count)
+    region_at(
+        docked_x(child, area, count),
+        docked_y(child, area, count),
+        child,
+        count,
+    )
 }
 
 // The region of a child of a flow that begins at a place.
@@ -222,13 +227,7 @@ fn put_flow(placed: &mut [Option<Region>], children: &[Child], left: u64, top: u
 }
 
 // How far layers go over their rooms.
-fn over_with(
-    main: Option<Axis>,
-    room: Size,
-    children: &[Child],
-    over: Size,
-    count: u32,
-) -> Size
+fn over_with(main: Option<Axis>, room: Size, children: &[Child], over: Size, count: u32) -> Size
     requires { All (IsChild count) children.now }
     ensures { result ≡ over_with main room children.now over }
 {
@@ -256,9 +255,23 @@ fn flow_put(
     ensures exact { placed.new ≡ flow_put align main edges room children.now placed.old }
     ensures count { length placed.new ≡ count }
 {
-    let free_x = shift(halves_x(align.0), room.width, extent(children, main, Axis::Width, count));
-    let free_y = shift(halves_y(align.1), room.height, extent(children, main, Axis::Height, count));
-    put_flow(placed, children, edges.left + free_x, edges.top + free_y, count);
+    let free_x = shift(
+        halves_x(align.0),
+        room.width,
+        extent(children, main, Axis::Width, count),
+    );
+    let free_y = shift(
+        halves_y(align.1),
+        room.height,
+        extent(children, main, Axis::Height, count),
+    );
+    put_flow(
+        placed,
+        children,
+        edges.left + free_x,
+        edges.top + free_y,
+        count,
+    );
 }
 
 // A layer behind the layers so far.
@@ -285,7 +298,15 @@ fn arrange_layer<F: Fn(Ask) -> Result<u32, LayoutFault>>(
     let flow = laid_flow(alloc, layer, edges, setting, measure)?;
     let room = edges.inside(setting.basis.area);
     put_docked(&mut laid.placed, &docked, setting.basis.area, setting.count);
-    flow_put(&mut laid.placed, &flow, align, edges, room, setting.main, setting.count);
+    flow_put(
+        &mut laid.placed,
+        &flow,
+        align,
+        edges,
+        room,
+        setting.main,
+        setting.count,
+    );
     laid.over = over_with(setting.main, room, &flow, laid.over, setting.count);
     Ok(())
 }
@@ -363,7 +384,13 @@ fn arranged_styles<F: Fn(Ask) -> Result<u32, LayoutFault>>(
 {
     let ordered = by_layer(alloc, children)?;
     let count = children.len() as u32;
-    arranged(alloc, &ordered, align, Setting { main, basis, count }, measure)
+    arranged(
+        alloc,
+        &ordered,
+        align,
+        Setting { main, basis, count },
+        measure,
+    )
 }
 
 /// Where the children of a container stand, and how far they go past the room for them.

@@ -15,3 +15,6 @@ pub use arranging::arrange;
 pub use measures::{tall_of, wide_of};
 pub use styles::{Arrangement, Ask, BoxStyle, GridStyle};
 pub use tx_box::LayoutFault;
+
+#[cfg(test)]
+mod tests;

@@ -68,7 +68,10 @@ fn ask_of(child: &Child, axis: Axis, area: Size) -> Ask
 fn content_width(child: &Child) -> u32
     ensures { result ≡ content_width child.now }
 {
-    child.wide.size.saturating_sub(child.style.gutter.along(Axis::Width))
+    child
+        .wide
+        .size
+        .saturating_sub(child.style.gutter.along(Axis::Width))
 }
 
 // What the caller answers. A refusal counts for the direction that asks.

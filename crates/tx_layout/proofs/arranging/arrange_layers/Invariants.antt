@@ -6,7 +6,6 @@ use Rattle.tx_layout.specs.Children.{IsChild, layers}
 use Rattle.tx_layout.specs.Steps.{fold_steps}
 use Rattle.tx_layout.proofs.arranging.arrange_layers.Given as goal
 
-
 abbrev pub invariant-loop-rest : goal.invariant-loop-rest
 invariant-loop-rest g l = record {
   done : (meaning : Ask → Option ℕ) → Means (goal.F-post g l.measure) l.setting.count meaning

@@ -15,9 +15,9 @@ loop-child-preserved g c =
     let within : c.loop-child.child-index < length c.args.children.now = omega arith in
     record {
       done = λ meaning means.
-        rw b.items
-        (i.done meaning means
-            ∙ each_next (across_one meaning c.args.axis c.args.setting.basis) c.args.children.now c.loop-child.child-index x y c.loop-child.sized.items within c.child-item.is (a.exact meaning means));
+          rw b.items
+          (i.done meaning means
+          ∙ each_next (across_one meaning c.args.axis c.args.setting.basis) c.args.children.now c.loop-child.child-index x y c.loop-child.sized.items within c.child-item.is (a.exact meaning means));
       children = rw b.items (All-push (IsChild c.args.setting.count) c.loop-child.sized.items y i.children a.child);
       count = rw b.items (pushed_length c.loop-child.sized.items y c.loop-child.child-index i.count);
     }

@@ -15,9 +15,9 @@ loop-child-preserved g c =
     let within : c.loop-child.child-index < length c.args.children.now = omega arith in
     record {
       done = λ meaning means.
-        rw b.items
-        (i.done meaning means
-            ∙ each_next (measured meaning c.args.axis c.args.setting.basis.area) c.args.children.now c.loop-child.child-index x y c.loop-child.items.items within c.child-item.is (a.exact meaning means));
+          rw b.items
+          (i.done meaning means
+          ∙ each_next (measured meaning c.args.axis c.args.setting.basis.area) c.args.children.now c.loop-child.child-index x y c.loop-child.items.items within c.child-item.is (a.exact meaning means));
       sized = rw b.items (All-push IsSized c.loop-child.items.items y i.sized a.sized);
       count = rw b.items (pushed_length c.loop-child.items.items y c.loop-child.child-index i.count);
     }

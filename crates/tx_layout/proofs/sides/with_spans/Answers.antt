@@ -15,8 +15,8 @@ loop-index-preserved c =
     let child = c.index-children-index.result in
     record {
       done = rw b.items
-        (i.done ∙ spans_next c.args.axis c.args.children.now c.args.spans.now c.loop-index.index child c.with_side.result _ c.loop-index.sized.items (omega arith) c.index-children-index.is (omega arith)
-            (w.exact ∙ ap (λ side. with_side c.args.axis side child) s.0));
+          (i.done ∙ spans_next c.args.axis c.args.children.now c.args.spans.now c.loop-index.index child c.with_side.result _ c.loop-index.sized.items (omega arith) c.index-children-index.is (omega arith)
+          (w.exact ∙ ap (λ side. with_side c.args.axis side child) s.0));
       children = rw b.items (All-push (IsChild c.args.count) c.loop-index.sized.items c.with_side.result i.children w.child);
       count = rw b.items (pushed_length c.loop-index.sized.items c.with_side.result c.loop-index.index i.count);
     }
