@@ -1,45 +1,10 @@
 -- Which private states a drawing or a reaction takes as they are, and what stands for the others.
-use Rattle.std.specs.Prelude.{ℕ, ◌==◌, Bool, true, false, not, ◌&&◌, ◌||◌, nat_le, nat_lt, List, [], ◌∷◌, length, drop, if◌then◌else◌}
+use Rattle.std.specs.Prelude.{ℕ, ◌==◌, Bool, true, not, ◌&&◌, ◌||◌, nat_le, nat_lt, List, [], ◌∷◌, length, drop, if◌then◌else◌}
 use Rattle.tx_cell.specs.Lines.{text_lines}
-use Rattle.tx_tree.specs.Kind.{fresh}
+use Rattle.tx_tree.specs.Kind.{fresh, has_form}
 use Rattle.tx_tree.specs.declared.kind.Kind.{Kind}
-use Rattle.tx_tree.specs.declared.kind.Kind.TheVariants.{Checkbox, Input, OptionList, ProgressBar, Handed}
 use Rattle.tx_tree.specs.declared.kind.Private.{Private}
 use Rattle.tx_tree.specs.declared.kind.Private.TheVariants.{Plain, Cursor, On, Chosen, Bar}
-
--- whether a kind is one of the application's own
-abbrev pub is_handed : Kind → Bool
-is_handed (Handed name) = true
-is_handed _ = false
-
--- whether a private state is a cursor, and so on
-abbrev pub is_plain : Private → Bool
-is_plain Plain = true
-is_plain _ = false
-
-abbrev pub is_cursor : Private → Bool
-is_cursor (Cursor at) = true
-is_cursor _ = false
-
-abbrev pub is_on : Private → Bool
-is_on (On on) = true
-is_on _ = false
-
-abbrev pub is_chosen : Private → Bool
-is_chosen (Chosen line) = true
-is_chosen _ = false
-
-abbrev pub is_bar : Private → Bool
-is_bar (Bar done total) = true
-is_bar _ = false
-
--- whether a private state is of the form that its kind has
-abbrev pub has_form : Kind → Private → Bool
-has_form Checkbox private = is_on private
-has_form Input private = is_cursor private
-has_form OptionList private = is_chosen private
-has_form ProgressBar private = is_bar private
-has_form _ private = is_plain private
 
 -- whether these bytes are none or begin a character in UTF-8
 abbrev pub begins_character : List ℕ → Bool

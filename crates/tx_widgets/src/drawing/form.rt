@@ -2,7 +2,7 @@
 
 ghost use Rattle.std.specs.Prelude.{◌≡◌, ◌<◌, ◌^◌, true, length};
 ghost use Rattle.tx_cell.specs.Lines.{text_lines};
-ghost use Rattle.tx_widgets.specs.Form.{begins_character, has_form, is_edge, is_in_form, state_of, suits};
+ghost use Rattle.tx_widgets.specs.Form.{begins_character, is_edge, is_in_form, state_of, suits};
 
 use tx_cell::lines_of;
 use tx_tree::{Kind, Private};
@@ -24,19 +24,7 @@ fn is_in_form(kind: &Kind, text: &str, private: Private) -> bool
     requires short { length text.now < 2 ^ 32 }
     ensures { result ≡ is_in_form kind.now text.now private }
 {
-    has_form(kind, private) && suits(text, private)
-}
-
-fn has_form(kind: &Kind, private: Private) -> bool
-    ensures { result ≡ has_form kind.now private }
-{
-    match kind {
-        Kind::Checkbox => matches!(private, Private::On(_)),
-        Kind::Input => matches!(private, Private::Cursor(_)),
-        Kind::OptionList => matches!(private, Private::Chosen(_)),
-        Kind::ProgressBar => matches!(private, Private::Bar { .. }),
-        _ => matches!(private, Private::Plain),
-    }
+    private.has_form(*kind) && suits(text, private)
 }
 
 fn suits(text: &str, private: Private) -> bool

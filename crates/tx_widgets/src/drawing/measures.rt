@@ -4,8 +4,7 @@ ghost use Rattle.std.specs.Prelude.{◌≡◌, ◌<◌, ◌≤◌, ◌^◌, fals
 ghost use Rattle.tx_cell.specs.Pen.{white_on_black};
 ghost use Rattle.tx_cell.specs.Strip.{line_cells};
 ghost use Rattle.tx_cell.specs.declared.pen.Pen as Seen;
-ghost use Rattle.tx_tree.specs.Kind.{holds_children};
-ghost use Rattle.tx_widgets.specs.Form.{is_handed};
+ghost use Rattle.tx_tree.specs.Kind.{holds_children, is_handed};
 ghost use Rattle.tx_widgets.specs.Measures.{most, wanted_height, wanted_width};
 
 use crate::drawing::boxes::first_line;

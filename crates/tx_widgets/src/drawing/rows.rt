@@ -3,7 +3,8 @@
 ghost use Rattle.std.specs.Prelude.{◌≡◌, ◌<◌, ◌^◌, true, false, length, map, IfOk};
 ghost use Rattle.std.specs.List.{All};
 ghost use Rattle.tx_widgets.specs.Drawing.{box_is_on, chosen_of, cursor_of, drawn_row, drawn_rows, first_row, lines_for, list_row, only_first, options_for, row_by};
-ghost use Rattle.tx_widgets.specs.Form.{is_handed, suits};
+ghost use Rattle.tx_tree.specs.Kind.{is_handed};
+ghost use Rattle.tx_widgets.specs.Form.{suits};
 ghost use Rattle.tx_widgets.specs.TextRows.{widest_of};
 ghost use Rattle.tx_cell.specs.Lines.{text_lines};
 

@@ -1,7 +1,7 @@
 //! What each kind draws.
 
 ghost use Rattle.std.specs.Prelude.{◌≡◌, ◌<◌, ◌^◌, false, length, IfSome};
-ghost use Rattle.tx_widgets.specs.Form.{is_handed};
+ghost use Rattle.tx_tree.specs.Kind.{is_handed};
 
 use crate::tests::table::{CONTENTS, FIELDS, LISTS, WRAPPED};
 use crate::{Face, line, lines};
