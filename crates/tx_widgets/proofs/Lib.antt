@@ -1,5 +1,6 @@
 pub mod CutLemmas
 pub mod FieldLemmas
+pub mod HeightLemmas
 pub mod LineLemmas
 pub mod LineWholeLemmas
 pub mod PenLemmas

@@ -1,11 +1,10 @@
 //! How wide and how tall a widget wants to be.
 
 ghost use Rattle.std.specs.Prelude.{◌≡◌, ◌<◌, ◌≤◌, ◌^◌, false, length, min, IfOk};
-ghost use Rattle.tx_cell.specs.Pen.{white_on_black};
 ghost use Rattle.tx_cell.specs.Strip.{line_cells};
 ghost use Rattle.tx_cell.specs.declared.pen.Pen as Seen;
 ghost use Rattle.tx_tree.specs.Kind.{holds_children, is_handed};
-ghost use Rattle.tx_widgets.specs.Measures.{most, wanted_height, wanted_width};
+ghost use Rattle.tx_widgets.specs.Measures.{most, text_height, wanted_height, wanted_width};
 
 use crate::drawing::boxes::first_line;
 use crate::drawing::field::cluster_columns;
@@ -46,16 +45,22 @@ pub fn tall(alloc: Global, kind: &Kind, text: &Text, width: u32) -> Result<u32, 
     requires leaf { holds_children kind.now ≡ false }
     requires built_in { is_handed kind.now ≡ false }
     requires short { length text.now < 2 ^ 32 }
-    ensures rows { IfOk result (λ rows. rows ≡ wanted_height kind.now text.now width white_on_black) }
+    ensures rows { IfOk result (λ rows. (pen : Seen.Pen) → rows ≡ wanted_height kind.now text.now width pen) }
 {
     match kind {
         Kind::Checkbox | Kind::Input | Kind::ProgressBar => Ok(1),
         Kind::OptionList => Ok(capped_count(line_count(text.as_str()))),
-        _ => {
-            let lines = wrap(alloc, text.as_str(), width, Pen::WHITE_ON_BLACK)?;
-            Ok(capped_count(lines.len()))
-        }
+        _ => text_height(alloc, text.as_str(), width),
     }
+}
+
+// The rows of a text that is wrapped at a width. In which pen doesn't matter.
+fn text_height(alloc: Global, text: &str, width: u32) -> Result<u32, NoMemory>
+    requires short { length text.now < 2 ^ 32 }
+    ensures { IfOk result (λ rows. (pen : Seen.Pen) → rows ≡ text_height text.now width pen) }
+{
+    let lines = wrap(alloc, text, width, Pen::WHITE_ON_BLACK)?;
+    Ok(capped_count(lines.len()))
 }
 
 fn capped(columns: u32) -> u32
