@@ -1,9 +1,9 @@
 -- Places along an axis: how far they can come.
 use Rattle.std.proofs.Common.{◌≡◌, ℕ, suc, ◌+◌, ◌*◌, ◌^◌, ◌<◌, ◌≤◌, arith, ℤ, pos, negsuc, to_z, of_z, w64}
-use Rattle.std.specs.Prelude.{◌+ℤ◌, ◌*ℤ◌, ◌≤ℤ◌}
+use Rattle.std.specs.Prelude.{◌+ℤ◌, ◌*ℤ◌, ◌≤ℤ◌, ◌<ℤ◌}
 use Rattle.std.specs.Int.{w128}
 use Rattle.std.proofs.lemmas.Int.{ints, to_z-of_z}
-use Rattle.std.proofs.Math.Nat.{le_of_mul-le-mul_right, mul-le-mul_right, mul-pos}
+use Rattle.std.proofs.Math.Nat.{le_of_mul-le-mul_right, lt_of_mul-lt-mul_right, mul-le-mul_right, mul-lt-mul_of_pos_right, mul-pos}
 use mir.Val.{SFits}
 use Rattle.tx_frac.specs.Ratio.{Ratio, IsRatio, sum_num}
 use Rattle.tx_box.specs.Sizes.{cells}
@@ -53,3 +53,51 @@ floor_fits x z n hn u h =
     let high = b.1 in
     let f : SFits w128 z = omega (arith, ints) in
     (to_z-of_z w128 z f, omega (arith, ints))
+
+-- f is a/b and g is z/e rounded down, where z/e is the sum of a/b and c/d, and c/d is at most n
+apart : (a c z b d e n f g : ℕ) → 0 < b → 0 < d → 0 < e → c ≤ n * d → z * (b * d) ≡ (a * d + c * b) * e → f * b ≤ a → a < (f + 1) * b → g * e ≤ z → z < (g + 1) * e
+    → (f ≤ g) × (g ≤ f + n)
+apart a c z b d e n f g hb hd he hc same low high low' high' =
+    let k : 0 < d * e = mul-pos hd he in
+    let p : f * b * (d * e) ≤ a * (d * e) = mul-le-mul_right (d * e) low in
+    let q : z * (b * d) < (g + 1) * e * (b * d) = mul-lt-mul_of_pos_right high' (mul-pos hb hd) in
+    let first : f * (b * (d * e)) < (g + 1) * (b * (d * e)) = omega arith in
+    let less : f < g + 1 = lt_of_mul-lt-mul_right (b * (d * e)) first in
+    let r : g * e * (b * d) ≤ z * (b * d) = mul-le-mul_right (b * d) low' in
+    let s : a * (d * e) < (f + 1) * b * (d * e) = mul-lt-mul_of_pos_right high k in
+    let t : c * (b * e) ≤ n * d * (b * e) = mul-le-mul_right (b * e) hc in
+    let second : g * (b * (d * e)) < (f + 1 + n) * (b * (d * e)) = omega arith in
+    let near : g < f + 1 + n = lt_of_mul-lt-mul_right (b * (d * e)) second in
+    (omega arith, omega arith)
+
+apart_from_zero : (a c z : ℤ) (b d e n : ℕ) (f g : ℤ) → 0 < b → 0 < d → 0 < e → pos 0 ≤ℤ a → pos 0 ≤ℤ c → pos 0 ≤ℤ z → pos 0 ≤ℤ f → pos 0 ≤ℤ g → c ≤ℤ pos (n * d)
+    → z *ℤ pos (b * d) ≡ (a *ℤ pos d +ℤ c *ℤ pos b) *ℤ pos e → (f *ℤ pos b) ≤ℤ a → a <ℤ ((f +ℤ pos 1) *ℤ pos b) → (g *ℤ pos e) ≤ℤ z → z <ℤ ((g +ℤ pos 1) *ℤ pos e)
+    → (f ≤ℤ g) × (g ≤ℤ (f +ℤ pos n))
+apart_from_zero (pos a) (pos c) (pos z) b d e n (pos f) (pos g) hb hd he la lc lz lf lg hc same low high low' high' =
+    let u : z * (b * d) ≡ (a * d + c * b) * e = omega (arith, ints) in
+    let r = apart a c z b d e n f g hb hd he (let h : c ≤ n * d = omega (arith, ints) in h) u (let h : f * b ≤ a = omega (arith, ints) in h)
+            (let h : a < (f + 1) * b = omega (arith, ints) in h) (let h : g * e ≤ z = omega (arith, ints) in h) (let h : z < (g + 1) * e = omega (arith, ints) in h) in
+    let less = r.0 in
+    let near = r.1 in
+    (omega (arith, ints), omega (arith, ints))
+apart_from_zero (negsuc a) c z b d e n f g hb hd he la lc lz lf lg hc same low high low' high' = absurd (omega (arith, ints))
+apart_from_zero (pos a) (negsuc c) z b d e n f g hb hd he la lc lz lf lg hc same low high low' high' = absurd (omega (arith, ints))
+apart_from_zero (pos a) (pos c) (negsuc z) b d e n f g hb hd he la lc lz lf lg hc same low high low' high' = absurd (omega (arith, ints))
+apart_from_zero (pos a) (pos c) (pos z) b d e n (negsuc f) g hb hd he la lc lz lf lg hc same low high low' high' = absurd (omega (arith, ints))
+apart_from_zero (pos a) (pos c) (pos z) b d e n (pos f) (negsuc g) hb hd he la lc lz lf lg hc same low high low' high' = absurd (omega (arith, ints))
+
+-- the whole cells from a place, at most m, to the end of a size, at most n
+pub record IsBetween (m n : ℕ) (f g : ℤ) : Type 0 where
+  pub not_negative : pos 0 ≤ℤ f
+  pub forward : f ≤ℤ g
+  pub at_most : g ≤ℤ (f +ℤ pos n)
+  pub far : g ≤ℤ pos (m + n)
+
+pub cells_between : (x size end : Ratio) (f g : ℤ) (m n : ℕ) → IsUpTo m x → IsUpTo n size → IsRatio (sum_num x size) (x.den * size.den) end → IsFloor x f → IsFloor end g → IsBetween m n f g
+cells_between x size end f g m n hx hs h hf hg =
+    let u = sum_up_to x size end m n hx hs h in
+    let p = floor_from_zero x f m hx.positive hx.not_negative hx.at_most hf in
+    let q = floor_from_zero end g (m + n) u.positive u.not_negative u.at_most hg in
+    let r = apart_from_zero x.num size.num end.num x.den size.den end.den n f g hx.positive hs.positive u.positive hx.not_negative hs.not_negative u.not_negative p.0 q.0 hs.at_most h.same
+            hf.below hf.greatest hg.below hg.greatest in
+    record { not_negative = p.0; forward = r.0; at_most = r.1; far = q.1 }

@@ -1,7 +1,8 @@
 -- What the parts of a layout are between two steps.
-use Rattle.std.specs.Prelude.{ℕ, ◌<◌, ◌*◌, pos, ◌≤ℤ◌, IfSome}
+use Rattle.std.specs.Prelude.{ℕ, ◌<◌, ◌*◌, ◌^◌, pos, ◌+ℤ◌, ◌≤ℤ◌, IfSome}
 use Rattle.tx_frac.specs.Ratio.{Ratio}
 use Rattle.tx_box.specs.Item.{NotNegative}
+use Rattle.tx_box.specs.declared.items.Span.{Span}
 use Rattle.tx_box.specs.declared.parts.Limits.{Limits}
 use Rattle.tx_box.specs.declared.parts.Part.{Part}
 use Rattle.tx_box.specs.declared.parts.Part.TheVariants.{Settled, Growing}
@@ -32,3 +33,10 @@ IsPart (Growing s l) = NotNegative s × AreLimits l
 abbrev pub IsSettledPart : Part → Type 0
 IsSettledPart (Settled c) = IsCellCount c
 IsSettledPart (Growing s l) = ⊥
+
+-- cells as an axis gives them: from 0 on, at most 65,535 of them, and none past 2^58
+pub record IsSpan (s : Span) : Type 0 where
+  pub not_negative : pos 0 ≤ℤ s.from
+  pub forward : s.from ≤ℤ s.to
+  pub at_most : s.to ≤ℤ (s.from +ℤ pos 65535)
+  pub far : s.to ≤ℤ pos (2 ^ 58)

@@ -4,7 +4,7 @@ ghost use Rattle.std.specs.Prelude.{◌≡◌, ℕ, ◌+◌, ◌*◌, ◌^◌, �
 ghost use Rattle.std.specs.List.{zip};
 ghost use Rattle.tx_box.specs.Item.{IsSized};
 ghost use Rattle.tx_box.specs.Sizes.{cells};
-ghost use Rattle.tx_box.specs.Shape.{IsCellCount, IsPart, IsSettledPart, IsUpTo};
+ghost use Rattle.tx_box.specs.Shape.{IsCellCount, IsPart, IsSettledPart, IsSpan, IsUpTo};
 ghost use Rattle.tx_box.specs.Axis.{settled_sizes, sizes_of, placed, spans_from, axis_spans, IsCause};
 
 use crate::items::{Basis, Item, LayoutFault, Span};
@@ -24,6 +24,7 @@ use tx_geom::{Axis, Size};
 /// Items with a size of their own get it. What is then left of the area is given to the shares in
 /// `fr`, where an item that its limits keep from its share gets the limit, and the others share
 /// the rest. The ends of the spans are rounded down, and not the sizes, so that no cell is lost.
+/// There is a span for each item, it has at most 65,535 cells, and none lies before 0 or past 2^58.
 ///
 /// It is refused exactly where one of the fractions on the way is, and where there is no memory.
 #[tactic(auto, unfolding(crate::specs::Axis::axis_sizes, crate::specs::Axis::axis_spans))]
@@ -40,6 +41,8 @@ pub fn resolve_axis(
     requires own { length own.now ≡ length items.now }
     requires count { length items.now ≤ 2 ^ 24 }
     ensures spans { IfOk result (λ spans. axis_spans items.now gaps.now axis basis own.now ≡ Some spans.items) }
+    ensures cells { IfOk result (λ spans. All IsSpan spans.items) }
+    ensures count { IfOk result (λ spans. length spans.items ≡ length items.now) }
     ensures refused { IfErr result (IsCause axis (axis_spans items.now gaps.now axis basis own.now ≡ None)) }
 {
     let mut parts = parts_of(alloc, items, axis, basis, own)?;
@@ -86,6 +89,8 @@ fn place(alloc: Global, parts: &[Part], gaps: &[u32], axis: Axis) -> Result<Vec<
     ensures spans { IfOk result
         (λ spans. spans_from (cells (slice_index gaps.now 0)) (zip (settled_sizes parts.now) (drop 1 gaps.now))
         ≡ Some spans.items) }
+    ensures cells { IfOk result (λ spans. All IsSpan spans.items) }
+    ensures count { IfOk result (λ spans. length spans.items ≡ length parts.now) }
     ensures refused { IfErr result
         (IsCause axis (spans_from (cells (slice_index gaps.now 0)) (zip (settled_sizes parts.now) (drop 1 gaps.now)) ≡ None)) }
 {
@@ -116,9 +121,10 @@ fn settled(part: &Part) -> Frac
 // The span of a size from a place on, and the place behind the gap that follows it.
 #[tactic(auto, unfolding(crate::specs::Axis::placed))]
 fn place_one(from: Frac, size: Frac, gap: u32) -> Option<(Span, Frac)>
-    requires from { IsUpTo (2 ^ 60) from }
+    requires from { IsUpTo (2 ^ 57) from }
     requires size { IsCellCount size }
     ensures exact { result ≡ placed from size gap }
+    ensures span { IfSome result (λ x. IsSpan x.0) }
     ensures next { IfSome result (λ x. (n : ℕ) → IsUpTo n from → IsUpTo (n + 2 ^ 33) x.1) }
 {
     let end = from.add(size)?;
