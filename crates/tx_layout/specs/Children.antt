@@ -10,9 +10,9 @@ use Rattle.tx_layout.specs.declared.children.Child.{Child}
 use Rattle.tx_layout.specs.declared.children.Side.{Side}
 use Rattle.tx_layout.specs.Style.{IsBoxStyle}
 
--- cells that lie before 2^40
+-- cells that lie before 2^58
 pub record IsSide (s : Side) : Type 0 where
-  pub from : s.from ≤ 2 ^ 40
+  pub from : s.from ≤ 2 ^ 58
   pub size : s.size < 2 ^ 32
 
 -- one of so many children, with a style that the calls accept

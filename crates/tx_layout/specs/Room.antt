@@ -73,9 +73,9 @@ last_from axis n (c ∷ cs) = last_from axis (outer_end axis c) cs
 unfoldable pub extent : Option Axis → Axis → List Child → ℕ
 extent main axis cs = if is_main main axis then last_from axis 0 cs else greatest_from axis 0 cs
 
--- edges of fewer than 2^41 cells
+-- edges of fewer than 2^59 cells
 pub record IsEdges (e : Edges) : Type 0 where
-  pub top : e.top < 2 ^ 41
-  pub right : e.right < 2 ^ 41
-  pub bottom : e.bottom < 2 ^ 41
-  pub left : e.left < 2 ^ 41
+  pub top : e.top < 2 ^ 59
+  pub right : e.right < 2 ^ 59
+  pub bottom : e.bottom < 2 ^ 59
+  pub left : e.left < 2 ^ 59

@@ -1,5 +1,6 @@
 -- The cells of children in one direction: across it each by itself, along it one after another.
 use Rattle.std.specs.Prelude.{ℕ, ◌+◌, ◌-◌, ℤ, pos, negsuc, ◌-ℤ◌, Bool, true, false, Option, Some, None, List, [], ◌∷◌, Result, Ok, Err, max, map, if◌then◌else◌, ◌≡◌}
+use Rattle.std.specs.List.{zip}
 use Rattle.tx_read.specs.Answer.{or_refused}
 use Rattle.tx_read.specs.Reading.{◌>>=◌}
 use Rattle.tx_geom.specs.declared.choices.Axis.{Axis}
@@ -91,9 +92,7 @@ gaps axis cs = gaps_behind axis 0 cs
 
 -- children with the cells of these spans
 abbrev pub with_spans : Axis → List Child → List Span → List Child
-with_spans axis cs [] = []
-with_spans axis [] (span ∷ spans) = []
-with_spans axis (c ∷ cs) (span ∷ spans) = with_side axis (side_of span) c ∷ with_spans axis cs spans
+with_spans axis cs spans = map (λ (x : Child × Span). with_side axis (side_of x.1) x.0) (zip cs spans)
 
 abbrev pub areas : Size → List Child → List Size
 areas area cs = map (λ c. base c.style area) cs

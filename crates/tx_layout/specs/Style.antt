@@ -64,7 +64,7 @@ abbrev pub is_auto : Unit → Bool
 is_auto Auto = true
 is_auto _ = false
 
--- a place within 2^44 cells before and behind
+-- a place within 2^61 cells before and behind
 pub record IsNearStart (z : ℤ) : Type 0 where
-  pub low : neg_ℤ (pos (2 ^ 44)) ≤ℤ z
-  pub high : z ≤ℤ pos (2 ^ 44)
+  pub low : neg_ℤ (pos (2 ^ 61)) ≤ℤ z
+  pub high : z ≤ℤ pos (2 ^ 61)

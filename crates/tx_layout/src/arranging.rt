@@ -152,8 +152,8 @@ fn docked_region(child: &Child, area: Size, count: u32) -> Region
 #[tactic(auto, unfolding(crate::specs::Arrangement::flow_region))]
 fn flow_region(child: &Child, left: u64, top: u64, count: u32) -> Region
     requires child { IsChild count child.now }
-    requires left { left < 2 ^ 43 }
-    requires top { top < 2 ^ 43 }
+    requires left { left < 2 ^ 60 }
+    requires top { top < 2 ^ 60 }
     ensures { result ≡ flow_region left top child.now }
 {
     let x = (left + child.wide.from) as i64;
@@ -216,8 +216,8 @@ fn put_docked(placed: &mut [Option<Region>], children: &[Child], area: Size, cou
 fn put_flow(placed: &mut [Option<Region>], children: &[Child], left: u64, top: u64, count: u32)
     requires children { All (IsChild count) children.now }
     requires count { length placed.old ≡ count }
-    requires left { left < 2 ^ 43 }
-    requires top { top < 2 ^ 43 }
+    requires left { left < 2 ^ 60 }
+    requires top { top < 2 ^ 60 }
     ensures exact { placed.new ≡ put_flow left top children.now placed.old }
     ensures count { length placed.new ≡ count }
 {

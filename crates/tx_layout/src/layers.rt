@@ -144,7 +144,7 @@ pub struct Edges {
 fn outer_end(child: &Child, axis: Axis, count: u32) -> u64
     requires { IsChild count child.now }
     ensures exact { result ≡ outer_end axis child.now }
-    ensures bound { result < 2 ^ 41 }
+    ensures bound { result < 2 ^ 59 }
 {
     let side = match axis {
         Axis::Width => child.wide,
@@ -190,7 +190,7 @@ fn is_edge(edge: Edge, other: Edge) -> bool
 fn taken_by(child: &Child, edge: Edge, axis: Axis, count: u32) -> u64
     requires { IsChild count child.now }
     ensures exact { result ≡ taken_by edge axis child.now }
-    ensures bound { result < 2 ^ 41 }
+    ensures bound { result < 2 ^ 59 }
 {
     if is_at(child.style.dock, edge) {
         outer_end(child, axis, count)
@@ -204,7 +204,7 @@ fn taken_by(child: &Child, edge: Edge, axis: Axis, count: u32) -> u64
 fn taken(children: &[Child], edge: Edge, axis: Axis, count: u32) -> u64
     requires { All (IsChild count) children.now }
     ensures exact { result ≡ taken edge axis children.now }
-    ensures bound { result < 2 ^ 41 }
+    ensures bound { result < 2 ^ 59 }
 {
     let mut most: u64 = 0;
     for child in children {
@@ -265,7 +265,7 @@ fn room_beside(room: u32, taken: u64) -> u32
 fn greatest_end(children: &[Child], axis: Axis, count: u32) -> u64
     requires { All (IsChild count) children.now }
     ensures exact { result ≡ greatest_from axis 0 children.now }
-    ensures bound { result < 2 ^ 41 }
+    ensures bound { result < 2 ^ 59 }
 {
     let mut end: u64 = 0;
     for child in children {
@@ -278,7 +278,7 @@ fn greatest_end(children: &[Child], axis: Axis, count: u32) -> u64
 fn last_end(children: &[Child], axis: Axis, count: u32) -> u64
     requires { All (IsChild count) children.now }
     ensures exact { result ≡ last_from axis 0 children.now }
-    ensures bound { result < 2 ^ 41 }
+    ensures bound { result < 2 ^ 59 }
 {
     let mut end: u64 = 0;
     for child in children {
@@ -292,7 +292,7 @@ fn last_end(children: &[Child], axis: Axis, count: u32) -> u64
 pub fn extent(children: &[Child], main: Option<Axis>, axis: Axis, count: u32) -> u64
     requires { All (IsChild count) children.now }
     ensures exact { result ≡ extent main axis children.now }
-    ensures bound { result < 2 ^ 41 }
+    ensures bound { result < 2 ^ 59 }
 {
     if is_main(main, axis) {
         last_end(children, axis, count)

@@ -1,8 +1,9 @@
 //! The cells of children in one direction.
 
-ghost use Rattle.std.specs.Prelude.{◌≡◌, ◌+◌, ◌<◌, ◌≤◌, ◌^◌, ℕ, pos, length, All, IfOk, IfSome, Option, Some, None, map, List};
+ghost use Rattle.std.specs.Prelude.{◌≡◌, ◌+◌, ◌<◌, ◌≤◌, ◌^◌, ℕ, pos, length, All, IfOk, Option, Some, None, map, List};
 ghost use Rattle.tx_read.specs.Answer.{Gives, or_refused};
 ghost use Rattle.tx_box.specs.Item.{IsSized};
+ghost use Rattle.tx_box.specs.Shape.{IsSpan};
 ghost use Rattle.tx_box.specs.Axis.{bases, axis_spans};
 ghost use Rattle.tx_box.specs.Sizes.{box_cells};
 ghost use Rattle.tx_layout.specs.Ask.{told, Means, IsMeaning, IsAnswer};
@@ -127,19 +128,16 @@ fn measured<F: Fn(Ask) -> Result<u32, LayoutFault>>(
     Ok(item_of(&child.style, axis, content))
 }
 
-// The cells of a span. An axis never gives a span that begins below 0, ends before it begins or goes
-// past so many cells, but it doesn't promise that.
-fn side_of(span: Span) -> Option<Side>
-    ensures { IfSome result (λ side. (side ≡ side_of span) × IsSide side) }
+// The cells of a span.
+fn side_of(span: Span) -> Side
+    requires { IsSpan span }
+    ensures exact { result ≡ side_of span }
+    ensures side { IsSide result }
 {
-    let far = span.from < 0 || span.to < span.from || span.from > 1 << 40;
-    if far || span.to - span.from > u32::MAX as i64 {
-        return None;
-    }
-    Some(Side {
+    Side {
         from: span.from as u64,
         size: (span.to - span.from) as u32,
-    })
+    }
 }
 
 // A child with its cells in one direction.
@@ -265,19 +263,15 @@ fn with_spans(
     count: u32,
 ) -> Result<Vec<Child>, LayoutFault>
     requires children { All (IsChild count) children.now }
+    requires spans { All IsSpan spans.now }
+    requires one_each { length spans.now ≡ length children.now }
     ensures exact { Gives (λ v. v.items) told result (Ok (with_spans axis children.now spans.now)) }
     ensures children { IfOk result (λ v. All (IsChild count) v.items) }
     ensures count { IfOk result (λ v. length v.items ≤ length children.now) }
 {
     let mut sized = Vec::with_capacity(alloc, children.len())?;
     for (index, child) in children.iter().enumerate() {
-        if index >= spans.len() {
-            return Ok(sized);
-        }
-        let Some(side) = side_of(spans[index]) else {
-            return Err(LayoutFault::NoMemory);
-        };
-        sized.push(with_side(child, axis, side, count))?;
+        sized.push(with_side(child, axis, side_of(spans[index]), count))?;
     }
     Ok(sized)
 }

@@ -10,13 +10,13 @@ pub loop-index-preserved : goal.loop-index-preserved
 loop-index-preserved c =
     let i = c.loop-index.invariant in
     let b = c.in_ok-push.ensures {u = tt} in
-    let s = c.in-Some.ensures {u = tt} in
+    let s = c.side_of.ensures in
     let w = c.with_side.ensures in
     let child = c.index-children-index.result in
     record {
       done = rw b.items
           (i.done ∙ spans_next c.args.axis c.args.children.now c.args.spans.now c.loop-index.index child c.with_side.result _ c.loop-index.sized.items (omega arith) c.index-children-index.is (omega arith)
-          (w.exact ∙ ap (λ side. with_side c.args.axis side child) s.0));
+          (w.exact ∙ ap (λ side. with_side c.args.axis side child) s.exact));
       children = rw b.items (All-push (IsChild c.args.count) c.loop-index.sized.items c.with_side.result i.children w.child);
       count = rw b.items (pushed_length c.loop-index.sized.items c.with_side.result c.loop-index.index i.count);
     }
