@@ -20,6 +20,7 @@ use Rattle.tx_layout.specs.declared.styles.Ask.{Ask}
 use Rattle.tx_layout.specs.declared.styles.Arrangement.{Arrangement}
 use Rattle.tx_layout.specs.declared.styles.BoxStyle.{BoxStyle}
 use Rattle.tx_layout.specs.declared.children.Child.{Child}
+use Rattle.tx_layout.specs.declared.children.Laid.{Laid}
 use Rattle.tx_layout.specs.declared.layers.Edges.{Edges}
 use Rattle.tx_layout.specs.Children.{IsByLayer, numbered, layers, docked, at_sides, flow}
 use Rattle.tx_layout.specs.Room.{edges_of, side_edges, inside, extent}
@@ -90,11 +91,6 @@ shift halves room extent = ((room - extent) * halves) / 2
 
 -- ---- all layers
 
--- what the layers so far come to: a region for each child that has one, and how far they go over the room
-pub record Laid : Type 0 where
-  pub placed : List (Option Region)
-  pub over : Size
-
 -- children with their regions, each written at its place
 abbrev pub put_docked : Size → List Child → List (Option Region) → List (Option Region)
 put_docked area [] placed = placed
@@ -130,23 +126,23 @@ over_with main room cs over =
     record { width = max over.width (past room.width (extent main Width cs)); height = max over.height (past room.height (extent main Height cs)) }
 
 -- a layer with its cells, behind the layers so far
-abbrev pub with_layer : (AlignX × AlignY) → Option Axis → Size → List Child → List Child → Laid → Laid
+abbrev pub with_layer : (AlignX × AlignY) → Option Axis → Size → List Child → List Child → Arrangement → Arrangement
 with_layer align main area ds fs laid =
     record {
       placed = flow_put align main (edges_of ds) (inside (edges_of ds) area) fs (put_docked area ds laid.placed);
       over = over_with main (inside (edges_of ds) area) fs laid.over;
     }
 
-unfoldable pub arranged_layer : (Ask → Option ℕ) → (AlignX × AlignY) → Option Axis → Basis → List Child → Laid → Result Laid Axis
+unfoldable pub arranged_layer : (Ask → Option ℕ) → (AlignX × AlignY) → Option Axis → Basis → List Child → Arrangement → Result Arrangement Axis
 arranged_layer meaning align main basis cs laid =
     laid_docked meaning basis cs >>= (λ ds. laid_flow meaning main basis (edges_of ds) cs >>= (λ fs. Ok (with_layer align main basis.area ds fs laid)))
 
 -- before the first layer
-abbrev pub unplaced : ℕ → Laid
+abbrev pub unplaced : ℕ → Arrangement
 unplaced count = record { placed = replicate count None; over = record { width = 0; height = 0 } }
 
 -- the arrangement of children that are ordered by layer
-unfoldable pub arranged : (Ask → Option ℕ) → (AlignX × AlignY) → Option Axis → Basis → List Child → Result Laid Axis
+unfoldable pub arranged : (Ask → Option ℕ) → (AlignX × AlignY) → Option Axis → Basis → List Child → Result Arrangement Axis
 arranged meaning align main basis ordered = fold_steps (arranged_layer meaning align main basis) (layers ordered) (unplaced (length ordered))
 
 -- ---- measures
@@ -192,9 +188,9 @@ tall meaning main width area screen ordered =
 
 -- ---- what a call gives
 
--- an arrangement as contracts see it
-abbrev pub seen : Arrangement → Laid
-seen a = record { placed = a.placed.items; over = a.over }
+-- the arrangement so far, as contracts see it
+abbrev pub seen : Laid → Arrangement
+seen laid = record { placed = laid.placed.items; over = laid.over }
 
 -- unless memory was wanting
 abbrev pub UnlessNoMemory : {R : Type 0} → Result R LayoutFault → Type 0 → Type 0

@@ -11,7 +11,7 @@ ghost use Rattle.tx_layout.specs.Room.{IsEdges, edges_of, inside, extent};
 ghost use Rattle.tx_layout.specs.Steps.{fold_steps};
 ghost use Rattle.tx_layout.specs.Arrangement.{main_of, IsInLine, basis_of, laid_docked, laid_flow, docked_x, docked_y, region_at, docked_region, flow_region, halves_x, halves_y, shift, put_docked, put_flow, past, flow_put, over_with, with_layer, arranged_layer, unplaced, arranged, seen, UnlessNoMemory, Ordered};
 
-use crate::children::{Child, Setting};
+use crate::children::{Child, Laid, Setting};
 use crate::layers::{Edges, Part, by_layer, edges_of, extent, layer_len, part_of};
 use crate::sides::sized_both;
 use crate::styles::{Arrangement, Ask, BoxStyle, GridStyle};
@@ -19,6 +19,7 @@ use std::alloc::Global;
 use tx_box::{Basis, LayoutFault};
 use tx_geom::{AlignX, AlignY, Axis, Edge, LayoutKind, Region, Size};
 use tx_io::{Ledger, Steps, Tick};
+use tx_text::Items;
 
 /// The direction in which the children of a container follow each other.
 pub fn main_of(kind: LayoutKind) -> Option<Axis>
@@ -281,7 +282,7 @@ fn arrange_layer<F: Fn(Ask) -> Result<u32, LayoutFault>>(
     layer: &[Child],
     align: (AlignX, AlignY),
     setting: Setting,
-    laid: &mut Arrangement,
+    laid: &mut Laid,
     measure: &F,
 ) -> Result<(), LayoutFault>
     requires callable { (ask : Ask) → ask.child < setting.count → F.pre measure.now ask }
@@ -317,7 +318,7 @@ fn arrange_layers<F: Fn(Ask) -> Result<u32, LayoutFault>>(
     ordered: &[Child],
     align: (AlignX, AlignY),
     setting: Setting,
-    laid: &mut Arrangement,
+    laid: &mut Laid,
     measure: &F,
 ) -> Result<(), LayoutFault>
     requires callable { (ask : Ask) → ask.child < setting.count → F.pre measure.now ask }
@@ -352,9 +353,9 @@ fn arranged<F: Fn(Ask) -> Result<u32, LayoutFault>>(
     requires count { length ordered.now ≤ 2 ^ 24 }
     ensures { (meaning : Ask → Option ℕ)
         → Means (F.post measure.now) setting.count meaning
-        → Gives seen told result (arranged meaning align setting.main setting.basis ordered.now) }
+        → Gives (λ a. a) told result (arranged meaning align setting.main setting.basis ordered.now) }
 {
-    let mut laid = Arrangement {
+    let mut laid = Laid {
         placed: vec![in alloc; None; ordered.len()]?,
         over: Size {
             width: 0,
@@ -362,7 +363,10 @@ fn arranged<F: Fn(Ask) -> Result<u32, LayoutFault>>(
         },
     };
     arrange_layers(alloc, ordered, align, setting, &mut laid, measure)?;
-    Ok(laid)
+    Ok(Arrangement {
+        placed: Items::of(laid.placed),
+        over: laid.over,
+    })
 }
 
 // The arrangement of children in the order of the document.
@@ -380,7 +384,7 @@ fn arranged_styles<F: Fn(Ask) -> Result<u32, LayoutFault>>(
     ensures { UnlessNoMemory result
         (Ordered children.now (λ ordered. (meaning : Ask → Option ℕ)
         → Means (F.post measure.now) (length children.now) meaning
-        → Gives seen told result (arranged meaning align main basis ordered))) }
+        → Gives (λ a. a) told result (arranged meaning align main basis ordered))) }
 {
     let ordered = by_layer(alloc, children)?;
     let count = children.len() as u32;
@@ -426,7 +430,7 @@ pub fn arrange<F: Fn(Ask) -> Result<u32, LayoutFault>, L: Ledger>(
     ensures arranged { UnlessNoMemory result
         (Ordered children.now (λ ordered. (meaning : Ask → Option ℕ)
         → Means (F.post measure.now) (length children.now) meaning
-        → Gives seen told result (arranged meaning align (main_of kind) (basis_of area screen) ordered))) }
+        → Gives (λ a. a) told result (arranged meaning align (main_of kind) (basis_of area screen) ordered))) }
     ensures ticked { FoldsTo L.ticked steps.old.ledger (Arranged ∷ []) steps.new.ledger }
 {
     steps.tick(Tick::Arranged);

@@ -2,7 +2,7 @@
 
 use crate::styles::BoxStyle;
 use tx_box::Basis;
-use tx_geom::Axis;
+use tx_geom::{Axis, Region, Size};
 
 /// The cells of a child in one direction: where they begin, and how many they are.
 #[derive(Clone, Copy)]
@@ -28,4 +28,12 @@ pub struct Setting {
     pub basis: Basis,
     /// How many children the container has. A measure may be asked of each of these.
     pub count: u32,
+}
+
+/// What the layers so far come to: the region of each child that has one, and how far they go over
+/// their rooms.
+#[derive(Drop)]
+pub struct Laid {
+    pub placed: Vec<Option<Region>>,
+    pub over: Size,
 }

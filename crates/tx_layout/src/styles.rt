@@ -2,6 +2,7 @@
 
 use tx_frac::Scalar;
 use tx_geom::{BoxSizing, Edge, Offset, Region, Size, Spacing};
+use tx_text::Items;
 
 /// What the style of a child says of its box.
 #[derive(Clone, Copy, Debug, PartialEq, Eq, Hash)]
@@ -36,9 +37,9 @@ pub struct GridStyle {
     /// None where there are as many rows as are used.
     pub rows: Option<u32>,
     /// The widths of the columns, over and over. An empty list is one `1fr`.
-    pub column_tracks: Vec<Scalar>,
+    pub column_tracks: Items<Scalar>,
     /// The heights of the rows, over and over. An empty list is one `1fr`.
-    pub row_tracks: Vec<Scalar>,
+    pub row_tracks: Items<Scalar>,
     /// The cells between rows.
     pub gutter_vertical: u32,
     /// The cells between columns.
@@ -61,7 +62,7 @@ pub struct Ask {
 pub struct Arrangement {
     /// The region of each child, from the corner of the container's viewport. None is for a child
     /// of a grid that finds no place.
-    pub placed: Vec<Option<Region>>,
+    pub placed: Items<Option<Region>>,
     /// How many cells the children go past the room for them, to the right and down.
     pub over: Size,
 }

@@ -9,6 +9,7 @@ use std::test::Fail;
 use tx_frac::{Frac, Scalar, Unit};
 use tx_geom::{AlignX, AlignY, BoxSizing, Edge, LayoutKind, Offset, Region, Size, Spacing};
 use tx_io::{Counted, Steps};
+use tx_text::Items;
 
 const SCREEN: Size = Size {
     width: 80,
@@ -95,8 +96,8 @@ fn grid(alloc: Global) -> GridStyle {
     GridStyle {
         columns: 1,
         rows: None,
-        column_tracks: Vec::new(alloc),
-        row_tracks: Vec::new(alloc),
+        column_tracks: Items::of(Vec::new(alloc)),
+        row_tracks: Items::of(Vec::new(alloc)),
         gutter_vertical: 0,
         gutter_horizontal: 0,
     }
@@ -141,7 +142,7 @@ fn places(
         found.over.width,
         found.over.height,
     ))?;
-    for region in &found.placed {
+    for region in found.placed.as_slice() {
         if let Some(region) = region {
             places.push((region.x, region.y, region.width, region.height))?;
         }
