@@ -158,11 +158,11 @@ either P expected actual comes here wanting = of comes.wanting comes.is
 pub Runs-read_fault : (words : List (List ℕ)) (files_before files_after : FilesSeen) (before after : SinkSeen) (journal : List Entry) (cause : Option Cause)
     → Runs words files_before files_after before after journal cause → CausedBy (read_faults cause) files_before.faults files_after.faults
 Runs-read_fault words files_before files_after before after journal cause r =
-    let answers : List Answer = r.reads.answers in
-    rw r.cause_is (either (λ opening. CausedBy (read_faults (cause_of opening r.acts)) files_before.faults files_after.faults)
-    (opening_of r.plan answers) r.opening r.reads.comes
-    (opening-read (opening_of r.plan answers) r.acts files_before.faults files_after.faults (opening-of_reading r.plan answers)
-    (faults-of_loads r.plan answers files_before files_after r.reads.loads)) tt)
+    let answers : List Answer = r.reads.follows.answers in
+    rw r.done.cause_is (either (λ opening. CausedBy (read_faults (cause_of opening r.done.acts)) files_before.faults files_after.faults)
+    (opening_of r.plan answers) r.opening r.reads.follows.comes
+    (opening-read (opening_of r.plan answers) r.done.acts files_before.faults files_after.faults (opening-of_reading r.plan answers)
+    (faults-of_loads r.plan answers files_before files_after r.reads.follows.loads)) tt)
 
 -- ---- a put that failed is the cause
 
@@ -184,8 +184,8 @@ opening-sink (Finds rows selector) acts before after of course is = end-sink (en
 pub Runs-sink_fault : (words : List (List ℕ)) (files_before files_after : FilesSeen) (before after : SinkSeen) (journal : List Entry) (cause : Option Cause)
     → Runs words files_before files_after before after journal cause → CausedBy (sink_faults cause) before.faults after.faults
 Runs-sink_fault words files_before files_after before after journal cause r =
-    rw r.cause_is (opening-sink r.opening r.acts before.faults after.faults
-    (either OfReading (opening_of r.plan r.reads.answers) r.opening r.reads.comes (opening-of_reading r.plan r.reads.answers) tt) r.course r.faults)
+    rw r.done.cause_is (opening-sink r.opening r.done.acts before.faults after.faults
+    (either OfReading (opening_of r.plan r.reads.follows.answers) r.opening r.reads.follows.comes (opening-of_reading r.plan r.reads.follows.answers) tt) r.done.course r.done.faults)
 
 -- ---- files that hold all that a plan asks for
 
@@ -272,8 +272,8 @@ pub Runs-complete : (words : List (List ℕ)) (files_before files_after : FilesS
     → Runs words files_before files_after before after journal cause
     → IfSome files_before.contents (λ told. IsComplete words told files_before.faults files_after.faults before.faults after.faults cause)
 Runs-complete words files_before files_after before after journal cause r =
-    complete-of files_before.contents words r.plan r.reads.answers r.opening r.acts files_before.faults files_after.faults before.faults after.faults cause
-    r.planned r.reads.of_files r.reads.comes r.course (faults-of_loads r.plan r.reads.answers files_before files_after r.reads.loads) r.faults r.cause_is
+    complete-of files_before.contents words r.plan r.reads.follows.answers r.opening r.done.acts files_before.faults files_after.faults before.faults after.faults cause
+    r.planned r.reads.follows.of_files r.reads.follows.comes r.done.course (faults-of_loads r.plan r.reads.follows.answers files_before files_after r.reads.follows.loads) r.done.faults r.done.cause_is
 
 -- ---- a sheet in the grammar
 

@@ -19,7 +19,7 @@ use Rattle.tx_app.specs.Course.{Act, Unmade, Updates, Closes, Writes, IsRefresh,
 use Rattle.tx_app.specs.Journal.{act_entries}
 use Rattle.tx_app.specs.Causes.{Failures, end_cause, end_of, sink_cause, cause_of}
 use Rattle.tx_app.specs.Refreshing.{Refreshes, entry_cause}
-use Rattle.tx_app.specs.Run.{Does, Runs}
+use Rattle.tx_app.specs.Run.{IsDone, Does, Runs}
 use Rattle.tx_app.specs.declared.causes.Cause.{Cause}
 use Rattle.tx_app.specs.declared.causes.Cause.TheVariants.{NoMemory}
 use Rattle.tx_app.specs.declared.journal.Entry.{Entry}
@@ -64,17 +64,23 @@ Refreshes-made before after scene shown next sent entry fresh made sends is =
 
 -- ---- the show
 
--- memory was wanting before the refresh
-pub Does-wanting : (before : SinkSeen) (scene : Scene) (journal : List Entry) → Does (Opens scene) before before journal journal (Some NoMemory)
-Does-wanting before scene journal = record {
-  actual = Stops NoMemory;
+-- nothing is done
+IsDone-stopped : (before : SinkSeen) (journal : List Entry) (cause : Cause) → IsDone (Stops cause) before before journal journal (Some cause)
+IsDone-stopped before journal cause = record {
   acts = [];
-  comes = record { wanting = true; is = refl; may = tt };
   course = refl;
   told = append_known-nothing before.told;
   faults = raised-none before.faults;
   journal = sym (append-nil journal);
   cause_is = refl;
+}
+
+-- memory was wanting before the refresh
+pub Does-wanting : (before : SinkSeen) (scene : Scene) (journal : List Entry) → Does (Opens scene) before before journal journal (Some NoMemory)
+Does-wanting before scene journal = record {
+  actual = Stops NoMemory;
+  comes = record { wanting = true; is = refl; may = tt };
+  done = IsDone-stopped before journal NoMemory;
 }
 
 -- a refresh, and then the closing bytes
@@ -87,16 +93,18 @@ Does-refresh before mid after scene journal entry closed cause r sends is =
     let back : List ℕ = take closed.taken closing in
     record {
       actual = Opens scene;
-      acts = r.act ∷ Closes closed ∷ [];
       comes = record { wanting = false; is = refl; may = tt };
-      course = record { refresh = r.act; closed = closed; is = refl; refreshes = r.is; closes = record { all = sends.all; part = sends.part } };
-      told = sends.content ∙ ap (λ t. append_known t back) r.told
-          ∙ append_known-append before.told front back
-          ∙ ap (λ b. append_known before.told (front ++ b)) (sym (append-nil back));
-      faults = sends.faults ∙ ap (λ n. raised n (failed_puts closed)) r.faults ∙ raised-twice before.faults (act_faults r.act) (failed_puts closed)
-          ∙ ap (raised before.faults) (omega arith);
-      journal = ap (λ e. journal ++ e) (r.entry_is ∙ sym (append-nil (act_entries r.act)));
-      cause_is = is;
+      done = record {
+        acts = r.act ∷ Closes closed ∷ [];
+        course = record { refresh = r.act; closed = closed; is = refl; refreshes = r.is; closes = record { all = sends.all; part = sends.part } };
+        told = sends.content ∙ ap (λ t. append_known t back) r.told
+            ∙ append_known-append before.told front back
+            ∙ ap (λ b. append_known before.told (front ++ b)) (sym (append-nil back));
+        faults = sends.faults ∙ ap (λ n. raised n (failed_puts closed)) r.faults ∙ raised-twice before.faults (act_faults r.act) (failed_puts closed)
+            ∙ ap (raised before.faults) (omega arith);
+        journal = ap (λ e. journal ++ e) (r.entry_is ∙ sym (append-nil (act_entries r.act)));
+        cause_is = is;
+      };
     }
 
 -- lines are sent
@@ -104,13 +112,15 @@ pub Does-print : (before after : SinkSeen) (lines : List ℕ) (sent : Sent) (cau
     → Sends before after lines sent → cause ≡ sink_cause (failed_puts sent) → Does (Prints lines) before after [] [] cause
 Does-print before after lines sent cause sends is = record {
   actual = Prints lines;
-  acts = Writes lines sent ∷ [];
   comes = record { wanting = false; is = refl; may = tt };
-  course = record { sent = sent; is = refl; writes = record { all = sends.all; part = sends.part } };
-  told = sends.content ∙ ap (append_known before.told) (sym (append-nil (take sent.taken lines)));
-  faults = sends.faults ∙ ap (raised before.faults) (omega arith);
-  journal = refl;
-  cause_is = is ∙ ap sink_cause (sym (zero-add (failed_puts sent)));
+  done = record {
+    acts = Writes lines sent ∷ [];
+    course = record { sent = sent; is = refl; writes = record { all = sends.all; part = sends.part } };
+    told = sends.content ∙ ap (append_known before.told) (sym (append-nil (take sent.taken lines)));
+    faults = sends.faults ∙ ap (raised before.faults) (omega arith);
+    journal = refl;
+    cause_is = is ∙ ap sink_cause (sym (zero-add (failed_puts sent)));
+  };
 }
 
 -- the lines of all matches are sent
@@ -121,49 +131,36 @@ Does-list before after rows selector lines given cause lists same d = of d.comes
     of : (b : Bool) → d.actual ≡ cond b (Stops NoMemory) (Prints given) → Does (Finds rows selector) before after [] [] cause
     of true is = record {
       actual = Stops NoMemory;
-      acts = d.acts;
       comes = record { wanting = true; is = refl; may = tt };
-      course = subst (λ o. IsCourse o d.acts) is d.course;
-      told = d.told;
-      faults = d.faults;
-      journal = d.journal;
-      cause_is = d.cause_is ∙ ap (λ o. cause_of o d.acts) is;
+      done = subst (λ o. IsDone o before after [] [] cause) is d.done;
     }
     of false is = record {
       actual = Finds rows selector;
-      acts = d.acts;
       comes = record { wanting = false; is = refl; may = tt };
-      course = record { lines = given; lists = subst (ListsMatches rows selector) (sym same) lists; printed = subst (λ o. IsCourse o d.acts) is d.course };
-      told = d.told;
-      faults = d.faults;
-      journal = d.journal;
-      cause_is = d.cause_is ∙ ap (λ o. cause_of o d.acts) is;
+      done = record {
+        acts = d.done.acts;
+        course = record { lines = given; lists = subst (ListsMatches rows selector) (sym same) lists; printed = subst (λ o. IsCourse o d.done.acts) is d.done.course };
+        told = d.done.told;
+        faults = d.done.faults;
+        journal = d.done.journal;
+        cause_is = d.done.cause_is ∙ ap (λ o. cause_of o d.done.acts) is;
+      };
     }
 
 -- memory was wanting for them
 pub Does-unlisted : (before : SinkSeen) (rows : List Row) (selector : SelectorValue) → Does (Finds rows selector) before before [] [] (Some NoMemory)
 Does-unlisted before rows selector = record {
   actual = Stops NoMemory;
-  acts = [];
   comes = record { wanting = true; is = refl; may = tt };
-  course = refl;
-  told = append_known-nothing before.told;
-  faults = raised-none before.faults;
-  journal = refl;
-  cause_is = refl;
+  done = IsDone-stopped before [] NoMemory;
 }
 
 -- what stopped the run
 pub Does-nothing : (before : SinkSeen) (cause : Cause) → Does (Stops cause) before before [] [] (Some cause)
 Does-nothing before cause = record {
   actual = Stops cause;
-  acts = [];
   comes = record { wanting = false; is = refl; may = tt };
-  course = refl;
-  told = append_known-nothing before.told;
-  faults = raised-none before.faults;
-  journal = refl;
-  cause_is = refl;
+  done = IsDone-stopped before [] cause;
 }
 
 -- ---- the whole
@@ -184,19 +181,16 @@ Runs-done words files_before files_after before after opening journal cause p d 
   plan = p.plan;
   planned = p.planned;
   opening = d.actual;
-  acts = d.acts;
   reads = record {
-    answers = p.reads.answers;
+    follows = record {
+      answers = p.reads.follows.answers;
+      of_files = p.reads.follows.of_files;
+      loads = p.reads.follows.loads;
+      comes = ComesTo-then (opening_of p.plan p.reads.follows.answers) opening d.actual p.reads.follows.comes d.comes;
+    };
     begins = p.reads.begins;
-    of_files = p.reads.of_files;
-    loads = p.reads.loads;
-    comes = ComesTo-then (opening_of p.plan p.reads.answers) opening d.actual p.reads.comes d.comes;
   };
-  course = d.course;
-  told = d.told;
-  faults = d.faults;
-  journal_is = d.journal;
-  cause_is = d.cause_is;
+  done = d.done;
 }
 
 -- ---- the cause

@@ -1,3 +1,4 @@
+pub mod AcceptLemmas
 pub mod CauseLemmas
 pub mod CourseLemmas
 pub mod FormLemmas

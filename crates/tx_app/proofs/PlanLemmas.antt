@@ -2,7 +2,6 @@
 use Rattle.std.proofs.Common.{◌≡◌, ℕ, ◌+◌, List, [], ◌∷◌, ◌++◌, Option, None, Some, Result, Ok, Err, Vec, true, false, refl, inl, inr, ap, sym, ◌∙◌, arith, subst, append_assoc, IfSome}
 use Rattle.std.proofs.lemmas.List.{append-nil}
 use Rattle.std.specs.declared.alloc.Global.{Global}
-use Rattle.tx_io.specs.declared.files.LoadFault.TheVariants.{Failed, TooLong as PastLimit, NoMemory as NoRoom}
 use Rattle.tx_io.specs.Faults.{raised}
 use Rattle.tx_io.specs.Loading.{FilesSeen, Load, load_of, append_loads, failed_loads, after_loads}
 use Rattle.tx_io.specs.Store.{Answer, LoadGives}
@@ -76,17 +75,17 @@ Begun-read before mid after name next bytes given actual load same rest = of loa
         let is : given ≡ read = same ∙ gives.0 in
         let follows : Follows mid after (next read) actual = subst (λ all. Follows mid after (next all) actual) is rest in
         record {
-          answers = Ok read ∷ follows.answers;
+          follows = record {
+            answers = Ok read ∷ follows.answers;
+            of_files = more_of_files before.contents name (Ok read) (loads_of (next read) follows.answers) of_files
+                (subst (λ (seen : FilesSeen). AreOfFiles seen.contents (loads_of (next read) follows.answers)) loads follows.of_files);
+            loads = follows.loads ∙ ap (λ seen. after_loads seen (loads_of (next read) follows.answers)) loads
+                ∙ after_loads-append before (load_of name file_limit (Ok read) ∷ []) (loads_of (next read) follows.answers);
+            comes = follows.comes;
+          };
           begins = tt;
-          of_files = more_of_files before.contents name (Ok read) (loads_of (next read) follows.answers) of_files
-              (subst (λ (seen : FilesSeen). AreOfFiles seen.contents (loads_of (next read) follows.answers)) loads follows.of_files);
-          loads = follows.loads ∙ ap (λ seen. after_loads seen (loads_of (next read) follows.answers)) loads
-              ∙ after_loads-append before (load_of name file_limit (Ok read) ∷ []) (loads_of (next read) follows.answers);
-          comes = follows.comes;
         }
-    of (Err Failed) of_files loads gives = absurd gives
-    of (Err PastLimit) of_files loads gives = absurd gives
-    of (Err NoRoom) of_files loads gives = absurd gives
+    of (Err fault) of_files loads gives = absurd gives
 
 -- the file wasn't loaded
 pub Begun-unread : (before after : FilesSeen) (name : List ℕ) (next : List ℕ → Plan) (cause : Cause)
@@ -96,12 +95,10 @@ Begun-unread before after name next cause load = of load.answer load.of_files lo
     of : (answer : Answer) → IfSome before.contents (λ told. LoadGives (told name) file_limit answer) → after ≡ after_loads before (load_of name file_limit answer ∷ [])
         → GivesLoaded name answer (Err cause) → Begun before after (Read name file_limit next) (Stops cause)
     of (Ok read) of_files loads gives = absurd gives
-    of (Err Failed) of_files loads gives =
-        record { answers = Err Failed ∷ []; begins = tt; of_files = one_of_files before.contents name (Err Failed) of_files; loads = loads; comes = gives }
-    of (Err PastLimit) of_files loads gives =
-        record { answers = Err PastLimit ∷ []; begins = tt; of_files = one_of_files before.contents name (Err PastLimit) of_files; loads = loads; comes = gives }
-    of (Err NoRoom) of_files loads gives =
-        record { answers = Err NoRoom ∷ []; begins = tt; of_files = one_of_files before.contents name (Err NoRoom) of_files; loads = loads; comes = gives }
+    of (Err fault) of_files loads gives = record {
+      follows = record { answers = Err fault ∷ []; of_files = one_of_files before.contents name (Err fault) of_files; loads = loads; comes = gives };
+      begins = tt;
+    }
 
 -- no load is made without an answer
 no_loads : (plan : Plan) → loads_of plan [] ≡ []
@@ -126,9 +123,6 @@ Follows-here before plan actual comes = record {
   comes = comes;
 }
 
-pub Follows-begun : (before after : FilesSeen) (plan : Plan) (actual : Opening) → Begun before after plan actual → Follows before after plan actual
-Follows-begun before after plan actual b = record { answers = b.answers; of_files = b.of_files; loads = b.loads; comes = b.comes }
-
 -- ---- the words
 
 -- the plan of the words
@@ -141,24 +135,12 @@ pub Planned-unjudged : (before : FilesSeen) (words : List (List ℕ)) → takes_
 Planned-unjudged before words takes = record {
   plan = Unjudged;
   planned = inr (refl, takes);
-  reads = record {
-    answers = [];
-    begins = tt;
-    of_files = none_of_files before.contents [] refl;
-    loads = after_loads-none before;
-    comes = record { wanting = false; is = refl; may = tt };
-  };
+  reads = record { follows = Follows-here before Unjudged (Stops NoMemory) (record { wanting = false; is = refl; may = tt }); begins = tt };
 }
 
 -- refused words
 pub Begun-misuse : (before : FilesSeen) → Begun before before (plan_of None) (Stops Usage)
-Begun-misuse before = record {
-  answers = [];
-  begins = tt;
-  of_files = none_of_files before.contents [] refl;
-  loads = after_loads-none before;
-  comes = record { wanting = false; is = refl; may = tt };
-}
+Begun-misuse before = record { follows = Follows-here before (plan_of None) (Stops Usage) (record { wanting = false; is = refl; may = tt }); begins = tt }
 
 -- memory was wanting for a tree that a selector is for
 pub ComesTo-rows : (name : List ℕ) (selector : SelectorValue) (found : Result (List Row) Fault) → ComesTo (opening_of (rows_plan name selector found) []) (Stops NoMemory)

@@ -1,9 +1,14 @@
 -- What stands behind the statuses: risen counts, and when there is no cause but want of memory.
-use Rattle.std.specs.Prelude.{◌≡◌, ◌≤◌, ℕ, List, length, Option, Some, None}
+use Rattle.std.specs.Prelude.{◌≡◌, ◌≤◌, ◌<◌, ◌^◌, true, ℕ, List, [], ◌∷◌, length, Option, Some, None, codes}
 use Rattle.tx_io.specs.Faults.{raised, Rose}
 use Rattle.tx_parse.specs.Grammar.{Found}
 use Rattle.tx_parse.specs.Texts.{IsSheetText}
-use Rattle.tx_app.specs.Words.{Checks, asked}
+use Rattle.tx_select.specs.SelectorValue.{SelectorValue}
+use Rattle.tx_select.specs.Texts.{IsSelectorText}
+use Rattle.tx_tree.specs.TreeValue.{TreeValue}
+use Rattle.tx_tree.specs.WellFormed.{IsTree}
+use Rattle.tx_tree_file.specs.TreeFile.{IsReading}
+use Rattle.tx_app.specs.Words.{Checks, asked, is_file}
 use Rattle.tx_app.specs.Loads.{file_limit}
 use Rattle.tx_app.specs.Plan.{Plan, Misuse, Unjudged, Refuse, Read, Open, Print, Find}
 use Rattle.tx_app.specs.Plans.{plan_of_words}
@@ -63,3 +68,24 @@ pub record HoldsSheet (words : List (List ℕ)) (told : List ℕ → Option (Lis
 -- such files hold all that the plan asks for
 abbrev pub SheetsAreAccepted : Type 0
 SheetsAreAccepted = (words : List (List ℕ)) (told : List ℕ → Option (List ℕ)) → HoldsSheet words told → Accepts told (plan_of_words words)
+
+-- The words ask for the rows of a tree that a selector matches, the selector is one by its grammar, and the file spells a
+-- tree, within the limit.
+pub record HoldsTree (words : List (List ℕ)) (told : List ℕ → Option (List ℕ)) : Type 0 where
+  pub program : List ℕ
+  pub name : List ℕ
+  pub text : List ℕ
+  pub asks : words ≡ program ∷ codes "query" ∷ name ∷ text ∷ []
+  pub named : is_file name ≡ true
+  pub selector : SelectorValue
+  pub text_short : length text < 2 ^ 32
+  pub selects : IsSelectorText text selector
+  pub bytes : List ℕ
+  pub tree : TreeValue
+  pub bytes_told : told name ≡ Some bytes
+  pub bytes_short : length bytes ≤ file_limit
+  pub sound : IsTree tree
+  pub spells : IsReading bytes tree
+
+abbrev pub TreesAreAccepted : Type 0
+TreesAreAccepted = (words : List (List ℕ)) (told : List ℕ → Option (List ℕ)) → HoldsTree words told → Accepts told (plan_of_words words)

@@ -25,9 +25,7 @@ abbrev pub GivesLoaded : List ℕ → Answer → Result (Vec ℕ Global) Cause �
 GivesLoaded name (Ok bytes) (Ok read) = (read.items ≡ bytes) × (length bytes ≤ file_limit)
 GivesLoaded name (Ok bytes) (Err cause) = ⊥
 GivesLoaded name (Err fault) (Ok read) = ⊥
-GivesLoaded name (Err Failed) (Err cause) = ComesTo (Stops (ReadFault 1)) (Stops cause)
-GivesLoaded name (Err PastLimit) (Err cause) = ComesTo (Stops (Refused name 0 0 TooLong)) (Stops cause)
-GivesLoaded name (Err NoRoom) (Err cause) = ComesTo (Stops NoMemory) (Stops cause)
+GivesLoaded name (Err fault) (Err cause) = ComesTo (Stops (load_cause name fault)) (Stops cause)
 
 -- a load, with the answer that it had
 pub record Loads (before after : FilesSeen) (name : List ℕ) (result : Result (Vec ℕ Global) Cause) : Type 0 where

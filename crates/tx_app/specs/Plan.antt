@@ -76,8 +76,5 @@ pub record Follows (before after : FilesSeen) (plan : Plan) (actual : Opening) :
 
 -- the same, from a first load on
 pub record Begun (before after : FilesSeen) (plan : Plan) (actual : Opening) : Type 0 where
-  pub answers : List Answer
-  pub begins : Begins plan answers
-  pub of_files : AreOfFiles before.contents (loads_of plan answers)
-  pub loads : after ≡ after_loads before (loads_of plan answers)
-  pub comes : ComesTo (opening_of plan answers) actual
+  pub follows : Follows before after plan actual
+  pub begins : Begins plan follows.answers

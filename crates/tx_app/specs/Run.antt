@@ -1,5 +1,5 @@
 -- The run: what is read, what is sent, and which journal, status and error line follow.
-use Rattle.std.specs.Prelude.{◌≡◌, ℕ, List, ◌++◌, Option}
+use Rattle.std.specs.Prelude.{◌≡◌, ℕ, List, [], ◌++◌, Option}
 use Rattle.std.specs.Io.KnownBytes.{append_known}
 use Rattle.tx_io.specs.declared.send.Sent.{Sent}
 use Rattle.tx_io.specs.Faults.{raised}
@@ -17,43 +17,33 @@ use Rattle.tx_app.specs.declared.causes.Cause.{Cause}
 use Rattle.tx_app.specs.declared.journal.Entry.{Entry}
 use Rattle.tx_app.specs.declared.outcome.Outcome.{Outcome}
 
--- What was opened is done: shown or printed, or memory was wanting for that.
-pub record Does (opening : Opening) (before after : SinkSeen) (journal_before journal_after : List Entry) (cause : Option Cause) : Type 0 where
-  pub actual : Opening
+-- What was opened is done, act by act, and what is sent, the journal and the cause follow from that.
+pub record IsDone (opening : Opening) (before after : SinkSeen) (journal_before journal_after : List Entry) (cause : Option Cause) : Type 0 where
   pub acts : List Act
-  pub comes : ComesTo opening actual
-  pub course : IsCourse actual acts
+  pub course : IsCourse opening acts
   pub told : after.told ≡ append_known before.told (bytes_of acts)
   pub faults : after.faults ≡ raised before.faults (faults_of acts)
   pub journal : journal_after ≡ journal_before ++ entries_of acts
-  pub cause_is : cause ≡ cause_of actual acts
+  pub cause_is : cause ≡ cause_of opening acts
 
--- The run up to its error line.
+-- It is shown or printed, or memory was wanting for that.
+pub record Does (opening : Opening) (before after : SinkSeen) (journal_before journal_after : List Entry) (cause : Option Cause) : Type 0 where
+  pub actual : Opening
+  pub comes : ComesTo opening actual
+  pub done : IsDone actual before after journal_before journal_after cause
+
+-- The run up to its error line. There are a plan, an opening that it comes to by the answers of the loads, and acts, from
+-- which all else follows.
 pub record Runs (words : List (List ℕ)) (files_before files_after : FilesSeen) (out_before out_after : SinkSeen) (journal : List Entry) (cause : Option Cause) : Type 0 where
   pub plan : Plan
   pub planned : IsPlanned words plan
   pub opening : Opening
-  pub acts : List Act
   pub reads : Begun files_before files_after plan opening
-  pub course : IsCourse opening acts
-  pub told : out_after.told ≡ append_known out_before.told (bytes_of acts)
-  pub faults : out_after.faults ≡ raised out_before.faults (faults_of acts)
-  pub journal_is : journal ≡ entries_of acts
-  pub cause_is : cause ≡ cause_of opening acts
+  pub done : IsDone opening out_before out_after [] journal cause
 
--- The run of these words over these files and sinks. There are a plan, an opening that it comes to by the answers of the
--- loads, and acts, from which all else follows.
+-- The run of these words over these files and sinks.
 pub record IsRun (words : List (List ℕ)) (files_before files_after : FilesSeen) (out_before out_after err_before err_after : SinkSeen) (outcome : Outcome) : Type 0 where
-  pub plan : Plan
-  pub planned : IsPlanned words plan
-  pub opening : Opening
-  pub acts : List Act
-  pub reads : Begun files_before files_after plan opening
-  pub course : IsCourse opening acts
-  pub out : out_after.told ≡ append_known out_before.told (bytes_of acts)
-  pub puts : out_after.faults ≡ raised out_before.faults (faults_of acts)
-  pub journal : outcome.journal ≡ entries_of acts
-  pub cause : outcome.cause ≡ cause_of opening acts
+  pub runs : Runs words files_before files_after out_before out_after outcome.journal outcome.cause
   pub status : outcome.status ≡ status_of outcome.cause
   pub error_sent : Sent
   pub err : Sends err_before err_after (error_bytes outcome.cause) error_sent

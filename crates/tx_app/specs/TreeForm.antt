@@ -24,7 +24,8 @@ is_static _ = false
 abbrev pub is_bare : Row → Bool
 is_bare row = is_none row.id && (is_empty row.classes.names && (not row.disabled && (is_empty row.inline && is_empty row.binds)))
 
--- the text of a Static
+-- The text of a Static. That it stands at depth 1 isn't asked: in what is read of a file only the Screen can stand above
+-- Statics, which hold no children.
 abbrev pub static_text : Row → Option (List ℕ)
 static_text row = if is_static row.kind && (is_bare row && list_all is_text_byte row.text) then Some row.text else None
 
@@ -39,7 +40,8 @@ abbrev pub statics : ℕ → List Row → Result (List (List ℕ)) ℕ
 statics number [] = Ok []
 statics number (row ∷ rows) = with_text number (static_text row) (statics (number + 1) rows)
 
--- the first row is the Screen
+-- The first row is the Screen. Its kind and its depth aren't asked: what is read of a file begins with the Screen, at depth 0,
+-- and every other row is below it.
 abbrev pub below_screen : List Row → Result (List (List ℕ)) ℕ
 below_screen [] = Err 1
 below_screen (row ∷ rows) = if is_bare row && is_empty row.text then statics 2 rows else Err 1

@@ -74,9 +74,13 @@ abbrev pub queries : List (List ℕ) → Option Task
 queries (tree ∷ selector ∷ []) = if is_file tree then option_map (Queries tree) (selector_in selector) else None
 queries _ = None
 
--- whether memory is taken to judge the words: where a selector stands among them
+-- whether memory is taken to judge the words: where a text of less than 4 GiB is read as a selector
+abbrev pub reads_selector : List (List ℕ) → Bool
+reads_selector (tree ∷ selector ∷ []) = is_file tree && nat_lt (length selector) (2 ^ 32)
+reads_selector _ = false
+
 abbrev pub takes_memory : List (List ℕ) → Bool
-takes_memory (_ ∷ mode ∷ words) = bytes_eq mode (codes "query")
+takes_memory (_ ∷ mode ∷ words) = bytes_eq mode (codes "query") && reads_selector words
 takes_memory _ = false
 
 -- the words behind the program's name: what to do, and to what

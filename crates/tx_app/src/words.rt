@@ -1,6 +1,6 @@
 //! The words of the command line.
-ghost use Rattle.std.specs.Prelude.{◌≡◌, ◌≤◌, map, option_map, string_bytes, IfSome, IfOk, OnErr, true};
-ghost use Rattle.tx_app.specs.Words.{IsScreen, asked, shows, checks, queries, selector_in, takes_memory, is_file, side, size_of, task_of, IsPossible};
+ghost use Rattle.std.specs.Prelude.{◌≡◌, ◌≤◌, map, option_map, string_bytes, IfSome, IfOk, OnErr, true, nat_lt, length, ◌^◌};
+ghost use Rattle.tx_app.specs.Words.{IsScreen, asked, shows, checks, queries, selector_in, reads_selector, takes_memory, is_file, side, size_of, task_of, IsPossible};
 
 use std::alloc::{AllocError, Global};
 use tx_geom::Size;
@@ -82,7 +82,8 @@ fn checks(words: &[String]) -> Option<Task<'_>>
 
 /// The selector that a text is. It has less than 4 GiB.
 fn selector_in(alloc: Global, text: &str) -> Result<Option<Selector>, AllocError>
-    ensures { IfOk result (λ selector. selector ≡ selector_in text.now) }
+    ensures is { IfOk result (λ selector. selector ≡ selector_in text.now) }
+    ensures memory { OnErr result (nat_lt (length text.now) (2 ^ 32) ≡ true) }
 {
     if text.len() >= 4_294_967_296 {
         return Ok(None);
@@ -98,6 +99,7 @@ fn selector_in(alloc: Global, text: &str) -> Result<Option<Selector>, AllocError
 fn queries(alloc: Global, words: &[String]) -> Result<Option<Task<'_>>, AllocError>
     ensures asks { IfOk result (λ task. option_map task_of task ≡ queries (map string_bytes words.now)) }
     ensures screen { IfOk result (λ task. IfSome task IsPossible) }
+    ensures memory { OnErr result (reads_selector (map string_bytes words.now) ≡ true) }
 {
     let [tree, selector] = words else {
         return Ok(None);
