@@ -1,5 +1,5 @@
 -- A text of one line that has the columns that it wants is drawn whole.
-use Rattle.std.proofs.Common.{◌≡◌, ◌+◌, ◌-◌, ◌<◌, ◌≤◌, ℕ, suc, zero, min, max, List, [], ◌∷◌, ◌++◌, length, map, length-append, Bool, true, false, refl, sym, ap, ◌∙◌, arith, append-nil}
+use Rattle.std.proofs.Common.{◌≡◌, ◌+◌, ◌-◌, ◌<◌, ◌≤◌, ℕ, suc, zero, max, List, [], ◌∷◌, ◌++◌, length, map, length-append, Bool, true, false, refl, sym, ap, ◌∙◌, arith, append-nil}
 use Rattle.std.proofs.lemmas.Bool.{eqb-true, le-leb, ne_eqb}
 use Rattle.std.proofs.lemmas.List.{nil_from_length}
 use Rattle.std.proofs.lemmas.List.Sums.{sum_by-cons}
@@ -25,7 +25,7 @@ use Rattle.tx_widgets.specs.Drawing.{drawn_row, face_lines, lines_row, row_by}
 use Rattle.tx_widgets.specs.Field.{cells_of_clusters}
 use Rattle.tx_widgets.specs.Form.{state_of}
 use Rattle.tx_widgets.specs.Laws.{LinesAreWhole, ShowsAll, draws_lines}
-use Rattle.tx_widgets.specs.Measures.{wanted_width}
+use Rattle.tx_widgets.specs.Measures.{full_width}
 use Rattle.tx_widgets.specs.TextRows.{start_column, top_row, widest_of}
 use Rattle.tx_widgets.specs.declared.drawing.face.Face.{Face}
 use Rattle.tx_widgets.proofs.FieldLemmas.{cut_end-line, cut_front-line}
@@ -108,13 +108,13 @@ row_by-lines Header private face y is = refl
 row_by-lines Footer private face y is = refl
 row_by-lines _ private face y is = cc
 
-wanted-lines : (kind : Kind) (text line : List ℕ) (pen : Pen) → draws_lines kind ≡ true → text_lines text ≡ line ∷ [] → wanted_width kind text pen ≡ min (max (length (line_cells line pen)) 0) 65535
-wanted-lines Static text line pen is one = rw one refl
-wanted-lines Label text line pen is one = rw one refl
-wanted-lines Button text line pen is one = rw one refl
-wanted-lines Header text line pen is one = rw one refl
-wanted-lines Footer text line pen is one = rw one refl
-wanted-lines _ text line pen is one = cc
+full-lines : (kind : Kind) (text line : List ℕ) (pen : Pen) → draws_lines kind ≡ true → text_lines text ≡ line ∷ [] → full_width kind text pen ≡ max (length (line_cells line pen)) 0
+full-lines Static text line pen is one = rw one refl
+full-lines Label text line pen is one = rw one refl
+full-lines Button text line pen is one = rw one refl
+full-lines Header text line pen is one = rw one refl
+full-lines Footer text line pen is one = rw one refl
+full-lines _ text line pen is one = cc
 
 top-inside : (align : AlignY) (height : ℕ) → 0 < height → top_row align height 1 < height
 top-inside Top height some = omega arith
@@ -171,6 +171,6 @@ whole-by face line (suc n) width is one rows same = whole-some face line is one 
 
 pub lines-whole : LinesAreWhole
 lines-whole face line is one fits =
-    let wants = fits.width ∙ wanted-lines face.kind face.text.now line face.pen is one in
-    let same : face.content.width ≡ length (line_cells line face.pen) = omega (arith, wants, fits.uncut) in
+    let full = full-lines face.kind face.text.now line face.pen is one in
+    let same : face.content.width ≡ length (line_cells line face.pen) = omega (arith, fits.width, full, fits.uncut) in
     whole-by face line face.content.width refl is one fits.some same

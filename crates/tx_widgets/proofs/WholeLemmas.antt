@@ -17,7 +17,7 @@ use Rattle.tx_widgets.specs.Drawing.{ascii_cells, box_is_on, box_row, box_text, 
 use Rattle.tx_widgets.specs.Field.{cells_from_cursor, cells_of_clusters, clusters_before, clusters_from, cursor_column, field_cells, field_row}
 use Rattle.tx_widgets.specs.Form.{state_of}
 use Rattle.tx_widgets.specs.Laws.{BoxesAreWhole, FieldsAreWhole, HasAll, texts}
-use Rattle.tx_widgets.specs.Measures.{box_width, field_width, wanted_width}
+use Rattle.tx_widgets.specs.Measures.{box_width, field_width, full_width}
 use Rattle.tx_widgets.specs.declared.drawing.face.Face.{Face}
 use Rattle.tx_widgets.proofs.CutLemmas.{front-ascii, window-first}
 use Rattle.tx_widgets.proofs.FieldLemmas.{column-inside, cut_end-both, cut_end-clusters, cut_end-line, cut_front-clusters, cut_front-line, end_of, front_of, line-split}
@@ -63,8 +63,8 @@ box-whole on width pen text fits =
 
 pub boxes-whole : BoxesAreWhole
 boxes-whole face is fits =
-    let wants = fits.width ∙ ap (λ k. wanted_width k face.text.now face.pen) is in
-    let enough : box_width face.text.now face.pen ≤ face.content.width = omega (arith, wants, fits.uncut) in
+    let full = ap (λ k. full_width k face.text.now face.pen) is in
+    let enough : box_width face.text.now face.pen ≤ face.content.width = omega (arith, fits.width, full, fits.uncut) in
     record {
       row = 0;
       inside = fits.some;
@@ -186,8 +186,8 @@ field-whole focused at width pen text wants =
 
 pub fields-whole : FieldsAreWhole
 fields-whole face is fits =
-    let wants = fits.width ∙ ap (λ k. wanted_width k face.text.now face.pen) is in
-    let enough : face.content.width ≡ field_width face.text.now face.pen = omega (arith, wants, fits.uncut) in
+    let full = ap (λ k. full_width k face.text.now face.pen) is in
+    let enough : face.content.width ≡ field_width face.text.now face.pen = omega (arith, fits.width, full, fits.uncut) in
     record {
       row = 0;
       inside = fits.some;

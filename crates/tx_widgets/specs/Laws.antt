@@ -1,12 +1,12 @@
 -- A text of one line that is drawn at the width that it wants loses no cell.
-use Rattle.std.specs.Prelude.{◌≡◌, ◌<◌, ℕ, Bool, true, false, List, [], ◌∷◌, ◌++◌, map}
+use Rattle.std.specs.Prelude.{◌≡◌, ◌<◌, ◌≤◌, ℕ, Bool, true, false, List, [], ◌∷◌, ◌++◌, map}
 use Rattle.tx_cell.specs.Cell.{CellValue}
 use Rattle.tx_cell.specs.Lines.{text_lines}
 use Rattle.tx_cell.specs.Strip.{line_cells}
 use Rattle.tx_tree.specs.declared.kind.Kind.{Kind}
 use Rattle.tx_tree.specs.declared.kind.Kind.TheVariants.{Static, Label, Button, Checkbox, Input, Header, Footer}
 use Rattle.tx_widgets.specs.Drawing.{drawn_row, first_of}
-use Rattle.tx_widgets.specs.Measures.{most, wanted_width}
+use Rattle.tx_widgets.specs.Measures.{full_width, most, wanted_width}
 use Rattle.tx_widgets.specs.declared.drawing.face.Face.{Face}
 
 -- the texts of cells
@@ -29,7 +29,7 @@ pub record ShowsAll (face : Face) (cells : List CellValue) : Type 0 where
 pub record HasItsWidth (face : Face) : Type 0 where
   pub some : 0 < face.content.height
   pub width : face.content.width ≡ wanted_width face.kind face.text.now face.pen
-  pub uncut : face.content.width < most
+  pub uncut : full_width face.kind face.text.now face.pen ≤ most
 
 -- whether a kind draws its text in wrapped lines
 abbrev pub draws_lines : Kind → Bool

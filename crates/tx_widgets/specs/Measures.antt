@@ -1,6 +1,6 @@
 -- How wide and how tall each kind wants to be.
 use Rattle.std.specs.Prelude.{ℕ, ◌+◌, min, List, length}
-use Rattle.tx_cell.specs.Lines.{measured, text_lines}
+use Rattle.tx_cell.specs.Lines.{text_lines, widest}
 use Rattle.tx_cell.specs.Strip.{line_cells}
 use Rattle.tx_cell.specs.Wrap.{wrapped_text}
 use Rattle.tx_cell.specs.declared.pen.Pen.{Pen}
@@ -20,18 +20,22 @@ box_width text pen = 4 + length (line_cells (first_of (text_lines text)) pen)
 abbrev pub field_width : List ℕ → Pen → ℕ
 field_width text pen = length (line_cells text pen) + 1
 
--- the columns that a row of a kind wants
+-- the columns that a row of a kind takes, however many
+abbrev pub full_width : Kind → List ℕ → Pen → ℕ
+full_width Static text pen = widest (text_lines text) pen
+full_width Label text pen = widest (text_lines text) pen
+full_width Button text pen = widest (text_lines text) pen
+full_width Header text pen = widest (text_lines text) pen
+full_width Footer text pen = widest (text_lines text) pen
+full_width OptionList text pen = widest (text_lines text) pen
+full_width Checkbox text pen = box_width text pen
+full_width Input text pen = field_width text pen
+full_width ProgressBar text pen = 32
+full_width _ text pen = 0
+
+-- the columns that it wants
 abbrev pub wanted_width : Kind → List ℕ → Pen → ℕ
-wanted_width Static text pen = measured text pen
-wanted_width Label text pen = measured text pen
-wanted_width Button text pen = measured text pen
-wanted_width Header text pen = measured text pen
-wanted_width Footer text pen = measured text pen
-wanted_width OptionList text pen = measured text pen
-wanted_width Checkbox text pen = min (box_width text pen) most
-wanted_width Input text pen = min (field_width text pen) most
-wanted_width ProgressBar text pen = 32
-wanted_width _ text pen = 0
+wanted_width kind text pen = min (full_width kind text pen) most
 
 -- the rows of a text that is wrapped at a width
 abbrev pub text_height : List ℕ → ℕ → Pen → ℕ
