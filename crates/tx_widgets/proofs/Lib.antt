@@ -6,5 +6,6 @@ pub mod LineWholeLemmas
 pub mod PenLemmas
 pub mod ResultLemmas
 pub mod RowLemmas
+pub mod ShownLemmas
 pub mod SingleLemmas
 pub mod WholeLemmas

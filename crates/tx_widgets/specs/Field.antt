@@ -41,6 +41,10 @@ field_cells false at pen text = line_cells text pen
 field_cells true at pen text =
     cells_of_clusters pen (clusters_before at (graphemes true text)) ++ cells_from_cursor (reversed pen) pen (clusters_from at (graphemes true text))
 
--- the row: from the column that puts the cursor into the last one, or from the first
+-- the column that is shown first: the one that puts the cursor into the last column, or the first of all
+abbrev pub first_column : ℕ → ℕ → Pen → List ℕ → ℕ
+first_column at width pen text = cursor_column at pen text + 1 - width
+
+-- the row
 abbrev pub field_row : Bool → ℕ → ℕ → Pen → List ℕ → List CellValue
-field_row focused at width pen text = window (cursor_column at pen text + 1 - width) width pen (field_cells focused at pen text)
+field_row focused at width pen text = window (first_column at width pen text) width pen (field_cells focused at pen text)

@@ -1,12 +1,16 @@
--- A text of one line that is drawn at the width that it wants loses no cell.
-use Rattle.std.specs.Prelude.{◌≡◌, ◌<◌, ◌≤◌, ℕ, Bool, true, false, List, [], ◌∷◌, ◌++◌, map}
+-- What holds of all that is drawn: a text of one line loses no cell at the width that it wants, and what counts is seen.
+use Rattle.std.specs.Prelude.{◌≡◌, ◌<◌, ◌≤◌, ◌+◌, ℕ, Bool, true, false, List, [], ◌∷◌, ◌++◌, map, replicate}
 use Rattle.tx_cell.specs.Cell.{CellValue}
 use Rattle.tx_cell.specs.Lines.{text_lines}
 use Rattle.tx_cell.specs.Strip.{line_cells}
+use Rattle.tx_cell.specs.declared.pen.Pen.{Pen}
 use Rattle.tx_tree.specs.declared.kind.Kind.{Kind}
 use Rattle.tx_tree.specs.declared.kind.Kind.TheVariants.{Static, Label, Button, Checkbox, Input, Header, Footer}
-use Rattle.tx_widgets.specs.Drawing.{drawn_row, first_of}
+use Rattle.tx_tree.specs.declared.kind.Private.TheVariants.{Bar}
+use Rattle.tx_widgets.specs.Drawing.{bar_row, done_columns, drawn_row, first_of, thick, thin}
+use Rattle.tx_widgets.specs.Field.{cursor_column, first_column}
 use Rattle.tx_widgets.specs.Measures.{full_width, most, wanted_width}
+use Rattle.tx_widgets.specs.Options.{first_option}
 use Rattle.tx_widgets.specs.declared.drawing.face.Face.{Face}
 
 -- the texts of cells
@@ -51,3 +55,25 @@ BoxesAreWhole = (face : Face) → face.kind ≡ Checkbox → HasItsWidth face �
 -- so is the text of an Input
 abbrev pub FieldsAreWhole : Type 0
 FieldsAreWhole = (face : Face) → face.kind ≡ Input → HasItsWidth face → ShowsAll face (line_cells face.text.now face.pen)
+
+-- a place is one of so many from the first that is shown
+pub record IsShown (first count place : ℕ) : Type 0 where
+  pub from : first ≤ place
+  pub before : place < first + count
+
+-- the cursor of an Input is in a column that is shown, where there is one
+abbrev pub CursorsAreShown : Type 0
+CursorsAreShown = (at width : ℕ) (pen : Pen) (text : List ℕ) → 0 < width → IsShown (first_column at width pen text) width (cursor_column at pen text)
+
+-- the chosen line of an OptionList is in a row that is shown, where there is one
+abbrev pub ChosenAreShown : Type 0
+ChosenAreShown = (chosen height : ℕ) → 0 < height → IsShown (first_option chosen height) height chosen
+
+-- what is drawn of work of which nothing is done, and of work that is done
+pub record IsBar (width total : ℕ) (pen : Pen) : Type 0 where
+  pub none : bar_row (done_columns width (Bar 0 total)) width pen ≡ replicate width (thin pen)
+  pub all : bar_row (done_columns width (Bar total total)) width pen ≡ replicate width (thick pen)
+
+-- a bar of which nothing is done is thin, and one that is done is thick
+abbrev pub BarsReachTheirEnds : Type 0
+BarsReachTheirEnds = (width total : ℕ) (pen : Pen) → 0 < total → IsBar width total pen
