@@ -24,8 +24,8 @@ is_static _ = false
 abbrev pub is_bare : Row → Bool
 is_bare row = is_none row.id && (is_empty row.classes.names && (not row.disabled && (is_empty row.inline && is_empty row.binds)))
 
--- The text of a Static. That it stands at depth 1 isn't asked: in what is read of a file only the Screen can stand above
--- Statics, which hold no children.
+-- The text of a Static. Its depth isn't asked: where all rows below the Screen are Statics, which hold no children, each one
+-- stands at depth 1.
 abbrev pub static_text : Row → Option (List ℕ)
 static_text row = if is_static row.kind && (is_bare row && list_all is_text_byte row.text) then Some row.text else None
 
