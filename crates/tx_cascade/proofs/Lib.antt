@@ -1,0 +1,7 @@
+pub mod Greatest
+pub mod Matching
+pub mod Parents
+pub mod Paths
+pub mod Rules
+pub mod Ticks
+pub mod Values

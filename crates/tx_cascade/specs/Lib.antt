@@ -1,0 +1,7 @@
+pub mod Better
+pub mod Cascade
+pub mod Edits
+pub mod Key
+pub mod Reaching
+pub mod Tested
+pub mod Tests

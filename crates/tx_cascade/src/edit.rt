@@ -1,0 +1,54 @@
+//! What may change between two styles of a row.
+
+use tx_text::Name;
+use tx_tree::NodeId;
+
+/// A part of a scene that changed: of the tree, of what pseudo-classes are judged by, or of what is
+/// shown.
+#[derive(Clone, Copy, Debug)]
+pub enum Edit {
+    /// A class of a row came or went.
+    Class {
+        node: NodeId,
+        name: Name,
+    },
+    /// A row was mounted below its parent.
+    Mounted {
+        node: NodeId,
+        parent: NodeId,
+    },
+    /// A row was removed from below its parent, with the rows below it.
+    Removed {
+        node: NodeId,
+        parent: NodeId,
+    },
+    /// A row has another place among the children of its parent.
+    Moved {
+        node: NodeId,
+        parent: NodeId,
+    },
+    /// A row has another text.
+    Text(NodeId),
+    /// A row has another inline text.
+    Inline(NodeId),
+    /// A row was disabled or enabled.
+    Disabled(NodeId),
+    /// A row has another private state.
+    State(NodeId),
+    /// A row is scrolled to another place.
+    Scrolled(NodeId),
+    /// The focus left the one row and came to the other.
+    Focus {
+        from: Option<NodeId>,
+        to: Option<NodeId>,
+    },
+    /// The pointer left the one row and came to the other.
+    Pointed {
+        from: Option<NodeId>,
+        to: Option<NodeId>,
+    },
+    /// The theme became dark or light.
+    Dark,
+    /// The screen has another size.
+    Resized,
+}

@@ -1,0 +1,15 @@
+//! The cascade of TCSS, the stylesheets of Textual (<https://textual.textualize.io/guide/CSS/>):
+//! which of the declarations that reach a row counts, and what the row has of its parent.
+//!
+//! [`style_of`] works out the style of one row.
+#![tactic(auto)]
+
+mod below;
+mod edit;
+mod key;
+mod path;
+mod reaching;
+mod winning;
+
+pub use edit::Edit;
+pub use path::style_of;
