@@ -3,5 +3,6 @@ pub mod Cascade
 pub mod Edits
 pub mod Key
 pub mod Reaching
+pub mod Styles
 pub mod Tested
 pub mod Tests

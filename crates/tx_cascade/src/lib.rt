@@ -1,7 +1,7 @@
 //! The cascade of TCSS, the stylesheets of Textual (<https://textual.textualize.io/guide/CSS/>):
 //! which of the declarations that reach a row counts, and what the row has of its parent.
 //!
-//! [`style_of`] works out the style of one row.
+//! [`style_of`] works out the style of one row, and [`Styles`] keeps those of all rows of a tree.
 #![tactic(auto)]
 
 mod below;
@@ -9,7 +9,9 @@ mod edit;
 mod key;
 mod path;
 mod reaching;
+mod styles;
 mod winning;
 
 pub use edit::Edit;
 pub use path::style_of;
+pub use styles::Styles;
