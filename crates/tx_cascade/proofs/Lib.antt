@@ -1,5 +1,7 @@
 pub mod Greatest
 pub mod Matching
+pub mod OneKey
+pub mod Orders
 pub mod Parents
 pub mod Paths
 pub mod Rules

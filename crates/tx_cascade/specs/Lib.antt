@@ -2,6 +2,7 @@ pub mod Better
 pub mod Cascade
 pub mod Edits
 pub mod Key
+pub mod Laws
 pub mod Reaching
 pub mod Styles
 pub mod Tested

@@ -7,6 +7,7 @@
 mod below;
 mod edit;
 mod key;
+pub mod laws;
 mod path;
 mod reaching;
 mod styles;
