@@ -52,6 +52,10 @@ abbrev pub names_state : ℕ → Edit → Bool
 names_state n (Private node) = is_node n node
 names_state n _ = false
 
+-- A text that is set moves the cursor and the chosen line too, and a reaction may change both.
+abbrev pub names_content : ℕ → Edit → Bool
+names_content n edit = names_text n edit || names_state n edit
+
 -- as the row before, or as the row now
 abbrev pub names_focus : ℕ → Edit → Bool
 names_focus n (Focus from to) = is_end n from || is_end n to
@@ -74,17 +78,17 @@ comes_before n m rows = list_any (has_number n) (before_of m rows)
 -- of a row that is there before and after, what no edit names is as it was, and so is what no edit can name
 pub record RowLeads (edits : List Edit) (n : ℕ) (old new : Row) : Type 0 where
   pub classes : (name : List ℕ) → list_any (names_class n name) edits ≡ false → has_name name old.classes.names ≡ has_name name new.classes.names
-  pub text : list_any (names_text n) edits ≡ false → old.text ≡ new.text
+  pub text : list_any (names_content n) edits ≡ false → old.text ≡ new.text
   pub inline : list_any (names_inline n) edits ≡ false → old.inline ≡ new.inline
   pub disabled : list_any (names_disabled n) edits ≡ false → old.disabled ≡ new.disabled
-  pub private : list_any (names_state n) edits ≡ false → old.private ≡ new.private
+  pub private : list_any (names_content n) edits ≡ false → old.private ≡ new.private
   pub kind : old.kind ≡ new.kind
   pub id : old.id ≡ new.id
   pub depth : old.depth ≡ new.depth
   pub binds : old.binds ≡ new.binds
 
--- each row that came or went is named with its parent, where it went with its parent only that one; and of two children of one
--- parent whose order is another one, one is named
+-- A row that came is named with its parent. A row that went is named with its parent, unless that went too. A row that stays keeps
+-- its parent. Of two children of one parent that changed their order, one is named.
 pub record RowsLead (edits : List Edit) (old new : List Row) : Type 0 where
   pub kept : (n : ℕ) (before after : Row) → row_at n old ≡ Some before → row_at n new ≡ Some after → RowLeads edits n before after
   pub mounted : (n : ℕ) (row parent : Row) → row_at n old ≡ None → row_at n new ≡ Some row → parent_of n new ≡ Some parent

@@ -27,13 +27,13 @@ pub enum Edit {
         node: NodeId,
         parent: NodeId,
     },
-    /// A row has another text.
+    /// A row's text was set, which also moves its cursor to the end and chooses its first line.
     Text(NodeId),
     /// A row has another inline text.
     Inline(NodeId),
     /// A row was disabled or enabled.
     Disabled(NodeId),
-    /// A row has another private state.
+    /// A row has another text or private state by its own reaction.
     State(NodeId),
     /// A row is scrolled to another place.
     Scrolled(NodeId),
