@@ -11,6 +11,8 @@ pub mod laws;
 mod path;
 mod reaching;
 mod styles;
+#[cfg(test)]
+mod tests;
 mod winning;
 
 pub use edit::Edit;
