@@ -76,7 +76,7 @@ apart_from_zero : (a c z : ℤ) (b d e n : ℕ) (f g : ℤ) → 0 < b → 0 < d 
 apart_from_zero (pos a) (pos c) (pos z) b d e n (pos f) (pos g) hb hd he la lc lz lf lg hc same low high low' high' =
     let u : z * (b * d) ≡ (a * d + c * b) * e = omega (arith, ints) in
     let r = apart a c z b d e n f g hb hd he (let h : c ≤ n * d = omega (arith, ints) in h) u (let h : f * b ≤ a = omega (arith, ints) in h)
-            (let h : a < (f + 1) * b = omega (arith, ints) in h) (let h : g * e ≤ z = omega (arith, ints) in h) (let h : z < (g + 1) * e = omega (arith, ints) in h) in
+    (let h : a < (f + 1) * b = omega (arith, ints) in h) (let h : g * e ≤ z = omega (arith, ints) in h) (let h : z < (g + 1) * e = omega (arith, ints) in h) in
     let less = r.0 in
     let near = r.1 in
     (omega (arith, ints), omega (arith, ints))
@@ -99,5 +99,5 @@ cells_between x size end f g m n hx hs h hf hg =
     let p = floor_from_zero x f m hx.positive hx.not_negative hx.at_most hf in
     let q = floor_from_zero end g (m + n) u.positive u.not_negative u.at_most hg in
     let r = apart_from_zero x.num size.num end.num x.den size.den end.den n f g hx.positive hs.positive u.positive hx.not_negative hs.not_negative u.not_negative p.0 q.0 hs.at_most h.same
-            hf.below hf.greatest hg.below hg.greatest in
+    hf.below hf.greatest hg.below hg.greatest in
     record { not_negative = p.0; forward = r.0; at_most = r.1; far = q.1 }

@@ -52,7 +52,7 @@ returns-clause-span c =
     let u = sum_up_to c.args.from c.args.size c.in_ok-end.end (2 ^ 57) 65535 c.requires.from size a.value in
     let m = floor_fits c.in_ok-end.end c.floor-2.result (2 ^ 57 + 65535) (omega arith) u (record { below = g.below; greatest = g.greatest }) in
     let b = cells_between c.args.from c.args.size c.in_ok-end.end c.floor.result c.floor-2.result (2 ^ 57) 65535 c.requires.from size a.value
-            (record { below = f.below; greatest = f.greatest }) (record { below = g.below; greatest = g.greatest }) in
+    (record { below = f.below; greatest = f.greatest }) (record { below = g.below; greatest = g.greatest }) in
     let far = b.far in
     rw (k.0, m.0, to_z-of_z w64 c.floor.result k.1, to_z-of_z w64 c.floor-2.result m.1)
     (record { not_negative = b.not_negative; forward = b.forward; at_most = b.at_most; far = omega (arith, ints) })
