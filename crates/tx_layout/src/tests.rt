@@ -203,12 +203,7 @@ fn shares_lie_side_by_side(rt: HostRuntime) -> Result<(), Fail> {
         boxed((1, Unit::Fr), (50, Unit::Percent), NO_ROOM),
         boxed((1, Unit::Fr), (50, Unit::Percent), NO_ROOM),
     ];
-    let found = places(
-        rt.alloc(),
-        LayoutKind::Horizontal,
-        START,
-        &children,
-    )?;
+    let found = places(rt.alloc(), LayoutKind::Horizontal, START, &children)?;
     assert_eq!(rt;
         found.as_slice(),
         [(1, 0, 0, 0), (0, 0, 6, 5), (6, 0, 7, 5), (13, 0, 7, 5)].as_slice()

@@ -1,6 +1,6 @@
-use Rattle.std.proofs.Common.{rules, ◌<◌, length, arith, sym}
+use Rattle.std.proofs.Common.{rules, length}
 use Rattle.std.proofs.lemmas.List.Sorted.{All-permutation, answers_always}
-use Rattle.tx_layout.specs.Children.{IsChild, IsByLayer, layer_of, numbered}
+use Rattle.tx_layout.specs.Children.{IsChild, layer_of, numbered}
 use Rattle.tx_layout.proofs.Kept.{by_layer_of}
 use Rattle.tx_layout.proofs.layers.by_layer.Goals as goal
 

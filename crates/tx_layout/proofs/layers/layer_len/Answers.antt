@@ -1,4 +1,4 @@
-use Rattle.std.proofs.Common.{length, arith, ◌<◌, get_or}
+use Rattle.std.proofs.Common.{arith, get_or}
 use Rattle.tx_layout.proofs.Runs.{cut_before, cut_at_end}
 use Rattle.tx_layout.proofs.layers.layer_len.Goals as goal
 

@@ -1,4 +1,4 @@
-use Rattle.std.proofs.Common.{◌≡◌, take, ◌≤◌, length, All}
+use Rattle.std.proofs.Common.{◌≡◌, take, ◌≤◌, All}
 use Rattle.tx_layout.specs.Children.{layer_of}
 use Rattle.tx_layout.proofs.layers.layer_len.Given as goal
 

@@ -1,6 +1,6 @@
-use Rattle.std.proofs.Common.{◌<◌, ◌≤◌, ◌^◌, length, arith, ◌∙◌, refl, sym, subst}
+use Rattle.std.proofs.Common.{length, arith, ◌∙◌, sym, subst}
 use Rattle.std.proofs.lemmas.List.Elements.{All-push}
-use Rattle.tx_layout.specs.Children.{IsChild, child_at}
+use Rattle.tx_layout.specs.Children.{IsChild}
 use Rattle.tx_layout.specs.Style.{IsBoxStyle}
 use Rattle.tx_layout.proofs.Lists.{pushed_length}
 use Rattle.tx_layout.proofs.Kept.{numbered_next}

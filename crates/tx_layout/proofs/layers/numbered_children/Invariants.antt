@@ -1,4 +1,4 @@
-use Rattle.std.proofs.Common.{◌≡◌, drop, ◌≤◌, ◌++◌, length, All}
+use Rattle.std.proofs.Common.{◌≡◌, drop, ◌++◌, length, All}
 use Rattle.tx_layout.specs.Children.{IsChild, numbered}
 use Rattle.tx_layout.proofs.layers.numbered_children.Given as goal
 

@@ -1,4 +1,4 @@
-use Rattle.std.proofs.Common.{◌≡◌, ◌≤◌, ◌^◌, drop, length, ℕ, All, Option}
+use Rattle.std.proofs.Common.{◌≡◌, ◌≤◌, ◌^◌, length, ℕ, All, Option}
 use Rattle.tx_layout.specs.declared.styles.Ask.{Ask}
 use Rattle.tx_layout.specs.Ask.{Means}
 use Rattle.tx_layout.specs.Arrangement.{wide_layer, greater}

@@ -1,4 +1,4 @@
-use Rattle.std.proofs.Common.{◌≡◌, drop, [], ℕ, length, ◌++◌}
+use Rattle.std.proofs.Common.{◌≡◌, drop, length, ◌++◌}
 use Rattle.tx_layout.specs.Sides.{areas}
 use Rattle.tx_layout.proofs.sides.areas.Given as goal
 

@@ -1,4 +1,4 @@
-use Rattle.std.proofs.Common.{◌<◌, ◌∙◌, length, arith, sym, ap, Ok}
+use Rattle.std.proofs.Common.{◌∙◌, arith, ap, Ok}
 use Rattle.std.proofs.lemmas.List.Elements.{All-push}
 use Rattle.tx_layout.specs.Children.{IsChild}
 use Rattle.tx_layout.specs.Sides.{with_side}

@@ -1,4 +1,4 @@
-use Rattle.std.proofs.Common.{◌≡◌, drop, [], ℕ, length, ◌++◌, All}
+use Rattle.std.proofs.Common.{◌≡◌, drop, length, ◌++◌, All}
 use Rattle.tx_layout.specs.Sides.{with_spans}
 use Rattle.tx_layout.specs.Children.{IsChild}
 use Rattle.tx_layout.proofs.sides.with_spans.Given as goal
