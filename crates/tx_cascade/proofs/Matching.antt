@@ -1,5 +1,5 @@
 -- Which selectors match, as it is looked for, is which do.
-use Rattle.std.proofs.Common.{◌≡◌, ℕ, ◌≤◌, Bool, true, false, List, refl, sym, ◌∙◌, inl, inr}
+use Rattle.std.proofs.Common.{◌≡◌, ℕ, ◌≤◌, Bool, true, false, List, refl, sym, inl, inr}
 use Rattle.std.proofs.lemmas.Bool.{cases_Bool, false≢true}
 use Rattle.tx_tree.specs.Rows.{count_of}
 use Rattle.tx_tree.specs.declared.row.Row.{Row}

@@ -6,7 +6,6 @@ use Rattle.std.specs.Prelude.{if◌then◌else◌}
 use Rattle.tx_cascade.specs.Key.{rank, importance, key_parts, exceeds}
 use Rattle.tx_cascade.specs.Laws.{ImportantWins, SpecificWins, LaterWins, NearerWins}
 use Rattle.tx_cascade.specs.declared.key.Key.{Key}
-use Rattle.tx_cascade.specs.declared.key.Origin.{Origin}
 use Rattle.tx_cascade.specs.declared.key.Origin.TheVariants.{Default, Sheet, Inline}
 use Rattle.tx_cascade.specs.declared.key.Weight.{Weight}
 

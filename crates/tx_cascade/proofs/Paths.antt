@@ -1,19 +1,18 @@
 -- A row's style by its parent's, on the way from the Screen down.
-use Rattle.std.proofs.Common.{◌≡◌, ℕ, suc, ◌+◌, ◌*◌, ◌<◌, ◌≤◌, true, length, List, [], ◌∷◌, Option, Some, None, is_some, option_map, Result, Ok, Err, IfOk, refl, sym, ap, ◌∙◌, arith}
+use Rattle.std.proofs.Common.{◌≡◌, ℕ, ◌+◌, ◌*◌, ◌≤◌, true, length, List, [], ◌∷◌, Option, Some, None, is_some, option_map, Result, Ok, Err, IfOk, refl, sym, ap, ◌∙◌, arith}
 use Rattle.std.specs.Option.{option_map_or}
 use Rattle.tx_tree.specs.Row.{number}
 use Rattle.tx_tree.specs.Rows.{row_at, parent_of, ancestors_of, count_of}
 use Rattle.tx_tree.specs.declared.row.Row.{Row}
 use Rattle.tx_tree.specs.declared.row.NodeId.{NodeId}
 use Rattle.tx_parse.specs.Values.{SheetValue}
-use Rattle.tx_value.specs.Style.{initial_style}
 use Rattle.tx_value.specs.declared.value.Value.{Value}
 use Rattle.tx_select.specs.declared.value.Pseudo.{Pseudo as State}
 use Rattle.tx_cascade.specs.Cascade.{style_below, styled, up_from, IsStyleOf}
 use Rattle.tx_cascade.specs.Reaching.{Test, reaching}
 use Rattle.tx_cascade.specs.Tests.{tests_of}
 use Rattle.tx_cascade.proofs.Matching.{tests-agree}
-use Rattle.tx_cascade.proofs.Parents.{the-row, no-row, parent-at, row-number, up-row, up-top}
+use Rattle.tx_cascade.proofs.Parents.{the-row, no-row, parent-at, up-row, up-top}
 
 module _ (rows : List Row) (once : (n : ℕ) → count_of n rows ≤ 1) where
   -- the rows from a row up, where a parent was answered

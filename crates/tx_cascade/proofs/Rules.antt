@@ -1,18 +1,17 @@
 -- Rules one after another, and inline texts.
-use Rattle.std.proofs.Common.{◌≡◌, ℕ, suc, ◌+◌, ◌<◌, ◌≤◌, nat_lt, length, drop, get_or, Bool, false, List, [], ◌∷◌, ◌++◌, Option, Some, None, Result, Ok, Err, Vec, refl, sym, ap, subst, ◌∙◌, add-one, append_assoc, arith}
-use Rattle.std.specs.List.{enumerate_from, flat_map, sum_by}
+use Rattle.std.proofs.Common.{◌≡◌, ℕ, suc, ◌+◌, ◌<◌, ◌≤◌, nat_lt, length, drop, get_or, false, List, [], ◌∷◌, ◌++◌, Result, Ok, Err, Vec, refl, sym, ap, subst, ◌∙◌, add-one, append_assoc, arith}
+use Rattle.std.specs.List.{enumerate_from, flat_map}
 use Rattle.std.specs.declared.alloc.Global.{Global}
 use Rattle.std.proofs.Math.Seq.{drop-cons}
 use Rattle.std.proofs.lemmas.Bool.{lt-ltb}
 use Rattle.std.proofs.lemmas.Bool.Decides.{nat_tests}
 use Rattle.std.proofs.lemmas.List.Sums.{sum_by-cons}
 use Rattle.tx_read.specs.Answer.{Gives}
-use Rattle.tx_select.specs.SelectorValue.{SelectorValue}
 use Rattle.tx_parse.specs.Grammar.{Body}
 use Rattle.tx_parse.specs.Texts.{Report, inline_of, located, told}
 use Rattle.tx_parse.specs.Values.{DeclarationValue, RuleValue, SheetValue}
 use Rattle.tx_parse.specs.declared.fault.SheetFault.{SheetFault}
-use Rattle.tx_parse.specs.declared.fault.SheetFault.TheVariants.{Text, NoMemory}
+use Rattle.tx_parse.specs.declared.fault.SheetFault.TheVariants.{Text}
 use Rattle.tx_parse.specs.declared.fault.SheetKind.{SheetKind}
 use Rattle.tx_cascade.specs.Reaching.{Test, selectors_of, no_weight, all_reached, of_rules, declared_in, inline_declarations, reaching}
 use Rattle.tx_cascade.specs.declared.key.Origin.TheVariants.{Default, Sheet, Inline}

@@ -1,5 +1,5 @@
 -- A style whose values are set one after another.
-use Rattle.std.proofs.Common.{◌≡◌, List, map, refl}
+use Rattle.std.proofs.Common.{◌≡◌, map, refl}
 use Rattle.std.specs.List.{fold}
 use Rattle.tx_value.specs.Style.{number, with_value, every_property, initial_style}
 use Rattle.tx_value.specs.declared.property.Property.{Property}

@@ -1,5 +1,5 @@
 -- How the greatest is looked for, one after another.
-use Rattle.std.specs.Prelude.{ℕ, Bool, true, false, List, [], ◌∷◌, Option, Some, None, if◌then◌else◌}
+use Rattle.std.specs.Prelude.{ℕ, Bool, List, Option, Some, None, if◌then◌else◌}
 use Rattle.tx_select.specs.SelectorValue.{SelectorValue}
 use Rattle.tx_cascade.specs.Key.{weight_parts, exceeds}
 use Rattle.tx_cascade.specs.Reaching.{Test, weight}

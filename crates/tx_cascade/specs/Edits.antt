@@ -10,7 +10,7 @@ use Rattle.tx_tree.specs.declared.row.NodeId.{NodeId}
 use Rattle.tx_tree.specs.declared.row.Row.{Row}
 use Rattle.tx_select.specs.declared.value.Pseudo.{Pseudo as State}
 use Rattle.tx_cascade.specs.declared.edit.Edit.{Edit}
-use Rattle.tx_cascade.specs.declared.edit.Edit.TheVariants.{Class, Mounted, Removed, Moved, Text, Inline, Disabled, State as Private, Scrolled, Focus, Pointed, Dark, Resized}
+use Rattle.tx_cascade.specs.declared.edit.Edit.TheVariants.{Class, Mounted, Removed, Moved, Text, Inline, Disabled, State as Private, Focus, Pointed, Dark}
 
 -- ---- what an edit names
 

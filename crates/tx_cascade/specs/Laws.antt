@@ -1,7 +1,7 @@
 -- What holds of the cascade.
 use Rattle.std.specs.Prelude.{◌≡◌, ◌⊎◌, ℕ, ◌<◌, true, false, List, [], ◌∷◌}
 use Rattle.tx_parse.specs.Values.{SheetValue}
-use Rattle.tx_cascade.specs.Key.{weight_parts, key_parts, exceeds}
+use Rattle.tx_cascade.specs.Key.{key_parts, exceeds}
 use Rattle.tx_cascade.specs.Reaching.{Test, reaching}
 use Rattle.tx_cascade.specs.declared.key.Origin.TheVariants.{Default, Sheet, Inline}
 use Rattle.tx_cascade.specs.declared.key.Key.{Key}

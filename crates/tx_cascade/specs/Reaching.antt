@@ -1,5 +1,5 @@
 -- The declarations that reach a row.
-use Rattle.std.specs.Prelude.{ℕ, ◌+◌, ◌^◌, nat_lt, Bool, List, [], ◌∷◌, ◌++◌, length, map, filter, flat_map, Option, Result, Ok, Err, if◌then◌else◌}
+use Rattle.std.specs.Prelude.{ℕ, ◌+◌, ◌^◌, nat_lt, Bool, List, [], ◌++◌, length, map, filter, flat_map, Option, Result, Ok, Err, if◌then◌else◌}
 use Rattle.std.specs.List.{enumerate_from, sum_by}
 use Rattle.std.specs.Option.{option_map_or}
 use Rattle.tx_select.specs.SelectorValue.{SelectorValue}

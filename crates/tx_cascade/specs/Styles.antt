@@ -1,6 +1,5 @@
 -- The styles of all rows.
 use Rattle.std.specs.Prelude.{◌≡◌, ℕ, List, ◌∷◌, Option, Some, option_map}
-use Rattle.tx_tree.specs.Row.{number}
 use Rattle.tx_tree.specs.Rows.{row_at, parent_of, ancestors_of}
 use Rattle.tx_tree.specs.declared.row.Row.{Row}
 use Rattle.tx_tree.specs.declared.row.NodeId.{NodeId}

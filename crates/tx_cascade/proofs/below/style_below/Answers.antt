@@ -1,6 +1,6 @@
-use Rattle.std.proofs.Common.{◌≡◌, ◌∙◌, List, get_or, refl, sym, ap, map, arith}
+use Rattle.std.proofs.Common.{◌∙◌, List, get_or, sym, ap, arith}
 use Rattle.std.specs.List.{fold}
-use Rattle.tx_value.specs.Style.{with_value, every_property, initial_style}
+use Rattle.tx_value.specs.Style.{with_value, initial_style}
 use Rattle.tx_value.specs.declared.property.Property.{Property}
 use Rattle.tx_value.specs.declared.property.Property.TheVariants.{Display}
 use Rattle.tx_value.specs.declared.value.Value.{Value}

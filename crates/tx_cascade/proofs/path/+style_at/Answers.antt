@@ -1,8 +1,8 @@
-use Rattle.std.proofs.Common.{rules, ◌≡◌, ◌+◌, ◌*◌, ◌<◌, ◌≤◌, true, is_some, length, [], ◌∷◌, refl, sym, ap, ◌∙◌, arith}
+use Rattle.std.proofs.Common.{rules, ◌≡◌, ◌*◌, ◌<◌, true, is_some, length, [], ◌∷◌, sym, ◌∙◌, arith}
 use Rattle.tx_tree.specs.Row.{plain}
 use Rattle.tx_tree.specs.Rows.{row_at}
 use Rattle.tx_tree.specs.declared.row.Row.{Row}
-use Rattle.tx_cascade.specs.Cascade.{styled, up_from}
+use Rattle.tx_cascade.specs.Cascade.{up_from}
 use Rattle.tx_cascade.specs.Reaching.{selectors_in}
 use Rattle.tx_cascade.specs.Tests.{tests_of}
 use Rattle.tx_cascade.specs.Tested.{TestedAtMost}

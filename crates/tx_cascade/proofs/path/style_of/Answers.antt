@@ -1,4 +1,3 @@
-use Rattle.std.proofs.Common.{IfOk, Result, Ok, Err, ◌≡◌, ◌∙◌}
 use Rattle.tx_cascade.proofs.Paths.{all-styles}
 use Rattle.tx_cascade.proofs.path.style_of.Goals as goal
 

@@ -1,4 +1,4 @@
-use Rattle.std.proofs.Common.{◌≡◌, ◌+◌, length, drop, refl, sym, ap, ◌∙◌, arith}
+use Rattle.std.proofs.Common.{◌+◌, drop, refl, arith}
 use Rattle.tx_cascade.specs.Reaching.{of_rule, of_rules, selectors_of}
 use Rattle.tx_cascade.specs.Tests.{tests_of}
 use Rattle.tx_cascade.proofs.Rules.{selectors-step, rules-step}

@@ -1,4 +1,4 @@
-use Rattle.std.proofs.Common.{◌≡◌, ap, ◌∙◌, arith}
+use Rattle.std.proofs.Common.{ap, ◌∙◌, arith}
 use Rattle.tx_cascade.specs.Reaching.{selectors_of}
 use Rattle.tx_cascade.specs.Tests.{tests_of}
 use Rattle.tx_cascade.proofs.Rules.{all-reaching}

@@ -1,10 +1,6 @@
 use Rattle.std.proofs.Common.{◌≡◌, drop, None}
 use Rattle.std.specs.List.{fold}
-use Rattle.std.specs.Prelude.{if◌then◌else◌}
-use Rattle.tx_tree.specs.Rows.{row_at}
 use Rattle.tx_cascade.specs.Better.{weighed}
-use Rattle.tx_cascade.specs.Key.{weight_parts}
-use Rattle.tx_cascade.specs.Reaching.{weight}
 use Rattle.tx_cascade.specs.Tested.{TestedAtMost}
 use Rattle.tx_cascade.specs.Tests.{tests_of}
 use Rattle.tx_cascade.proofs.reaching.weight_at.Given as goal

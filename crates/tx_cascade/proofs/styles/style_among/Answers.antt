@@ -1,4 +1,4 @@
-use Rattle.std.proofs.Common.{◌≡◌, [], Some, sym, ap, option_copied, ◌∙◌}
+use Rattle.std.proofs.Common.{[], sym, ◌∙◌}
 use Rattle.tx_tree.specs.Row.{plain}
 use Rattle.tx_cascade.specs.Cascade.{up_from}
 use Rattle.tx_cascade.specs.Tests.{tests_of}

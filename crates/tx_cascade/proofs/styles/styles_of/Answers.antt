@@ -1,4 +1,4 @@
-use Rattle.std.proofs.Common.{◌≡◌, ℕ, ◌+◌, ◌*◌, ◌≤◌, ◌++◌, List, [], ◌∷◌, None, Some, length, refl, sym, ap, ◌∙◌, arith, length-append, append_assoc}
+use Rattle.std.proofs.Common.{◌≡◌, ℕ, ◌*◌, ◌++◌, List, [], ◌∷◌, length, sym, ap, ◌∙◌, append_assoc}
 use Rattle.tx_tree.specs.Row.{plain}
 use Rattle.tx_tree.specs.declared.row.Row.{Row}
 use Rattle.tx_node_map.specs.Held.{held}

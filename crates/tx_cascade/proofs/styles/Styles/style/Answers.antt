@@ -1,4 +1,4 @@
-use Rattle.std.proofs.Common.{◌≡◌, ap, subst, ◌∙◌}
+use Rattle.std.proofs.Common.{◌≡◌, subst}
 use Rattle.std.specs.Prelude.{MatchOption, None}
 use Rattle.tx_tree.specs.Rows.{row_at}
 use Rattle.tx_cascade.specs.Cascade.{IsStyleOf}
