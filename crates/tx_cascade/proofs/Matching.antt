@@ -6,7 +6,7 @@ use Rattle.tx_tree.specs.declared.row.Row.{Row}
 use Rattle.tx_select.specs.Match.{IsMatch}
 use Rattle.tx_select.specs.declared.value.Compound.{Compound}
 use Rattle.tx_select.specs.declared.value.Pseudo.{Pseudo as State}
-use Rattle.tx_select.proofs.Placed.{match-sound, match-whole}
+use Rattle.tx_select.proofs.lemmas.Placed.{match-sound, match-whole}
 use Rattle.tx_cascade.specs.Cascade.{AreTests}
 use Rattle.tx_cascade.specs.Tests.{tests_of}
 

@@ -8,7 +8,7 @@ use Rattle.tx_tree.specs.Rows.{row_at, before_of, last_above, parent_of, ancesto
 use Rattle.tx_tree.specs.declared.row.Row.{Row}
 use Rattle.tx_tree.specs.declared.row.NodeId.{NodeId}
 use Rattle.tx_select.specs.Match.{IsAmong}
-use Rattle.tx_select.proofs.Ancestry.{up-parent, up-none}
+use Rattle.tx_select.proofs.lemmas.Ancestry.{up-parent, up-none}
 use Rattle.tx_cascade.specs.Cascade.{up_from}
 
 above-found : (depth : ℕ) (found : Option Row) (rows : List Row) (row : Row) → last_above depth found rows ≡ Some row → (found ≡ Some row) ⊎ IsAmong row rows

@@ -1,11 +1,9 @@
 pub mod Again
 pub mod AgainWhole
-pub mod Ancestry
 pub mod FitsUp
 pub mod Found
 pub mod FoundWhole
 pub mod Local
-pub mod Placed
 pub mod Plain
 pub mod Queries
 pub mod Small

@@ -13,7 +13,7 @@ use Rattle.tx_select.specs.Match.{IsMatch, AreMatches, IsFirstMatch, first_node}
 use Rattle.tx_select.specs.Climb.{is_match}
 use Rattle.tx_select.specs.declared.value.Compound.{Compound}
 use Rattle.tx_select.specs.declared.value.Pseudo.{Pseudo as State}
-use Rattle.tx_select.proofs.Placed.{match-sound, match-whole}
+use Rattle.tx_select.proofs.lemmas.Placed.{match-sound, match-whole}
 
 -- the first of those that pass
 first-passing : (test : Row → Bool) (rows : List Row) → option_map (λ row. row.node) (find test rows) ≡ first_node (map (λ row. row.node) (filter test rows))

@@ -11,7 +11,7 @@ use Rattle.tx_select.specs.Match.{IsAmong, IsJoined, ArePlaced, last_row, IsMatc
 use Rattle.tx_select.specs.Climb.{climbs_from, is_match}
 use Rattle.tx_select.specs.declared.value.Compound.{Compound}
 use Rattle.tx_select.specs.declared.value.Pseudo.{Pseudo as State}
-use Rattle.tx_select.proofs.Ancestry.{up-none, up-parent}
+use Rattle.tx_select.proofs.lemmas.Ancestry.{up-none, up-parent}
 use Rattle.tx_select.proofs.FitsUp.{some_end, passes_on, fits, turned_onto, climb-fits, turned-back}
 
 and-left : (a b : Bool) → (a && b) ≡ true → a ≡ true
