@@ -1,7 +1,7 @@
 -- Counts of failed calls.
 use Rattle.std.specs.Prelude.{ℕ, ◌+◌, ◌-◌, ◌^◌, ◌≤◌, min}
 
--- A count after k more calls failed. Like every count here it stands still at 2^64 - 1.
+-- A count after k more calls failed. Like every count here it saturates at 2^64 - 1.
 abbrev pub raised : ℕ → ℕ → ℕ
 raised count k = count + min k (2 ^ 64 - 1 - count)
 

@@ -1,4 +1,4 @@
--- What contracts see of sinks and files in memory.
+-- What contracts see of sources, sinks and files in memory.
 use Rattle.std.specs.Prelude.{ℕ, ◌-◌, List, [], ◌∷◌, map, min, if◌then◌else◌, None, Some, Option, Vec, String, Bool, ◌||◌, is_none, nat_eq, nat_le, string_bytes}
 use Rattle.std.specs.List.{list_any}
 use Rattle.std.specs.declared.alloc.Global.{Global}
@@ -11,8 +11,16 @@ pub record SinkState : Type 0 where
   pub plan : List ℕ
   pub faults : ℕ
 
--- How many of `len` bytes a put takes where `total` were taken before it: none, and it fails,
--- where the next failing place is reached, and else all up to that place.
+-- How many bytes a source has given, those that it has left, the places at which a read is still to fail, and how many reads have
+-- failed.
+pub record SourceState : Type 0 where
+  pub given : ℕ
+  pub left : List ℕ
+  pub plan : List ℕ
+  pub faults : ℕ
+
+-- How many of `len` bytes a put may take, or a read may give, where `total` were before it: none, and it fails, where the next
+-- failing place is reached, and else all up to that place.
 abbrev pub room : List ℕ → ℕ → ℕ → Option ℕ
 room [] total len = Some len
 room (place ∷ places) total len = if nat_le place total then None else Some (min len (place - total))

@@ -10,7 +10,7 @@ pub enum LoadFault {
     Failed,
     /// The content is longer than the limit.
     TooLong,
-    /// Memory is wanting.
+    /// Out of memory.
     NoMemory,
 }
 

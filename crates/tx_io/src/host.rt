@@ -2,6 +2,7 @@ ghost use Rattle.std.specs.Prelude.{◌≡◌, ℕ, None};
 
 use crate::files::{Files, LoadFault};
 use crate::sink::{Failed, Sink};
+use crate::source::Source;
 use std::alloc::Global;
 use std::io::{Read, Write};
 use std::marker::Model;
@@ -46,6 +47,45 @@ impl<W: Write> Sink for WriterSink<W> {
     }
 }
 
+/// A source before one of std's readers. Nothing is known of what the reader has left.
+#[derive(Drop)]
+pub struct ReaderSource<R> {
+    reader: R,
+    failures: u64,
+}
+
+impl<R> Model for ReaderSource<R> {
+    ghost Value = { ℕ };
+
+    ghost view = { λ s. s.failures };
+}
+
+impl<R> ReaderSource<R> {
+    /// A source whose reads are those of `reader`, each one read.
+    pub fn new(reader: R) -> ReaderSource<R>
+        ensures { result ≡ 0 }
+    {
+        ReaderSource {
+            reader,
+            failures: 0,
+        }
+    }
+}
+
+impl<R: Read> Source for ReaderSource<R> {
+    ghost seen = { λ s. record { left = None; faults = s } };
+
+    fn read(&mut self, into: &mut [u8]) -> Result<usize, Failed> {
+        match self.reader.read(into) {
+            Ok(count) => Ok(count),
+            Err(_) => {
+                self.failures = self.failures.saturating_add(1);
+                Err(Failed)
+            }
+        }
+    }
+}
+
 /// The files of the host. Nothing is known of what they hold.
 #[derive(Drop)]
 pub struct HostFiles<'a, R> {
@@ -68,7 +108,7 @@ impl<'a, R> HostFiles<'a, R> {
     }
 }
 
-/// The front of a file, one byte more than `limit` where it is longer.
+/// The first bytes of a file, one more than `limit` where it is longer.
 fn read_front<R: rt::Files>(rt: &R, alloc: Global, name: &str, limit: u64) -> io::Result<Vec<u8>> {
     let file = fs::open(rt, name)?;
     let mut bytes = Vec::new(alloc);

@@ -5,7 +5,7 @@ use crate::sink::{Failed, Sink};
 /// What became of bytes that were sent.
 #[derive(Clone, Copy, Debug, PartialEq, Eq)]
 pub struct Sent {
-    /// How many of the bytes the sink took, from the front.
+    /// The length of the prefix that the sink took.
     pub taken: u64,
     /// Whether a put failed. Then no further one was made.
     pub failed: bool,

@@ -13,7 +13,7 @@ pub trait Sink {
     /// The bytes taken so far, where the sink tells them, and how many puts have failed.
     ghost seen: { Self → SinkSeen };
 
-    /// Takes a front of the piece and says how many bytes it has. Of a piece that isn't empty it
+    /// Takes a prefix of the piece and answers its length. Of a piece that isn't empty it
     /// takes at least one byte, or it fails and takes nothing.
     fn put(&mut self, piece: &[u8]) -> Result<usize, Failed>
         ensures within { IfOk result (λ n. n ≤ length piece.now) }

@@ -15,26 +15,26 @@ pub enum Tick {
     Cell,
 }
 
-/// What is told of steps, one tick at a time.
+/// What counts steps, one tick at a time.
 pub trait Ledger {
     ghost use Rattle.tx_io.specs.declared.steps.Tick.{Tick};
 
     /// What a ledger may be after a tick, by what it was before.
     ghost ticked: { Self → Tick → Self → Type 0 };
 
-    /// Takes one tick down. It can't fail.
+    /// Counts one tick. It can't fail.
     fn tick(&mut self, what: Tick)
         ensures { ticked self.old what self.new };
 }
 
-/// The steps that some work takes, as its ledger is told of them.
+/// The steps that some work takes, as its ledger counts them.
 #[derive(Drop)]
 pub struct Steps<L: Ledger> {
     pub ledger: L,
 }
 
 impl<L: Ledger> Steps<L> {
-    /// Takes one tick down.
+    /// Counts one tick.
     pub fn tick(&mut self, what: Tick)
         ensures { FoldsTo L.ticked self.old.ledger (what ∷ []) self.new.ledger }
     {
@@ -42,7 +42,7 @@ impl<L: Ledger> Steps<L> {
     }
 }
 
-/// The numbers of the ticks so far, of each sort. A number stands still at its type's end.
+/// The numbers of the ticks so far, of each sort. A number saturates at its type's end.
 #[derive(Clone, Copy, Debug, Default, PartialEq, Eq)]
 pub struct Counted {
     pub tests: u64,
@@ -64,7 +64,7 @@ impl Ledger for Counted {
     }
 }
 
-/// A ledger that tells nothing and costs nothing.
+/// A ledger that counts nothing and costs nothing.
 #[derive(Clone, Copy, Debug, Default, PartialEq, Eq)]
 pub struct Uncounted;
 

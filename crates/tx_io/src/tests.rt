@@ -1,6 +1,6 @@
 use crate::{
-    Counted, Failed, Files, HostFiles, Ledger, LoadFault, MemoryFiles, MemorySink, Sent, Sink,
-    Steps, Tick, Uncounted, WriterSink, send_all,
+    Counted, Failed, Files, HostFiles, Ledger, LoadFault, MemoryFiles, MemorySink, MemorySource,
+    NullSink, ReaderSource, Sent, Sink, Source, Steps, Tick, Uncounted, WriterSink, send_all,
 };
 use std::alloc::AllocError;
 use std::test::Fail;
@@ -143,4 +143,59 @@ fn ticks_are_counted_by_their_sort(rt: HostRuntime) {
     assert_eq!(rt; steps.ledger, wanted);
     let mut untold = Steps { ledger: Uncounted };
     six_ticks(&mut untold);
+}
+
+/// What five reads of at most three bytes give, of a source of seven bytes that fails at these
+/// places: the bytes, or `!` for a read that fails, and `.` for one that gives none.
+fn read_five_times(rt: &HostRuntime, fail_at: &[u64]) -> Result<Vec<u8>, AllocError> {
+    let bytes = b"abcdefg".to_vec(rt.alloc())?;
+    let mut source = MemorySource::new(bytes, fail_at.to_vec(rt.alloc())?);
+    let mut seen = Vec::new(rt.alloc());
+    for _ in 0..5 {
+        let mut places = [0u8; 3];
+        let read = source.read(&mut places);
+        match read {
+            Ok(0) => seen.push(b'.')?,
+            Ok(count) => seen.extend_from_slice(&places[..count])?,
+            Err(Failed) => seen.push(b'!')?,
+        }
+        seen.push(b' ')?;
+    }
+    Ok(seen)
+}
+
+#[test]
+fn reading_stops_at_each_failing_place_once(rt: HostRuntime) -> Result<(), Fail> {
+    let cases: [(&[u64], &[u8]); 6] = [
+        (&[], b"abc def g . . "),
+        (&[0], b"! abc def g . "),
+        (&[3], b"abc ! def g . "),
+        (&[2, 2, 4], b"ab ! ! cd ! "),
+        (&[7], b"abc def g ! . "),
+        (&[8], b"abc def g . . "),
+    ];
+    for (fail_at, wanted) in cases {
+        let seen = read_five_times(&rt, fail_at)?;
+        assert_eq!(rt; seen.as_slice(), wanted, "failing at {fail_at:?}");
+    }
+    Ok(())
+}
+
+#[test]
+fn a_reader_gives_what_it_has(rt: HostRuntime) -> Result<(), Fail> {
+    let mut source = ReaderSource::new(b"abcd".as_slice());
+    let mut places = [0u8; 3];
+    assert_eq!(rt; source.read(&mut places), Ok(3));
+    assert_eq!(rt; places, *b"abc");
+    assert_eq!(rt; source.read(&mut places), Ok(1));
+    assert_eq!(rt; places, *b"dbc");
+    assert_eq!(rt; source.read(&mut places), Ok(0));
+    Ok(())
+}
+
+#[test]
+fn nothing_is_kept_of_what_a_null_sink_takes(rt: HostRuntime) {
+    let mut sink = NullSink;
+    assert_eq!(rt; send_all(&mut sink, b"abcde"), sent(5, false));
+    assert_eq!(rt; sink.put(b""), Ok(0));
 }
