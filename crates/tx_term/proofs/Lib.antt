@@ -7,6 +7,7 @@ pub mod LawLemmas
 pub mod MachineLemmas
 pub mod NumberLemmas
 pub mod RowLemmas
+pub mod SameLemmas
 pub mod SequenceLemmas
 pub mod SettingLemmas
 pub mod SizeLemmas

@@ -47,6 +47,10 @@ WholeUpdatesLead =
 abbrev pub UpdatesWithoutMarksAreEmpty : Type 0
 UpdatesWithoutMarksAreEmpty = (shown next : GridValue) → (update shown next false ≡ []) ↔ (update_marks shown next false ≡ [])
 
+-- where the grid that is shown is the next one already, an update that isn't whole has no bytes
+abbrev pub EqualGridsSendNothing : Type 0
+EqualGridsSendNothing = (grid : GridValue) → update grid grid false ≡ []
+
 -- ---- the modes
 
 -- the cursor is hidden, and the screen is the alternate one

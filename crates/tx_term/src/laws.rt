@@ -1,5 +1,5 @@
 //! Laws about the definitions, each the contract of a function that does nothing.
-ghost use Rattle.tx_term.specs.Laws.{BytesFollow, NoBytesChangeNothing, BytesKeepTheSize, UpdatesLead, WholeUpdatesLead, UpdatesWithoutMarksAreEmpty, WholeUpdatesTake, UpdatesKeepTheModes, ClosingGivesBack};
+ghost use Rattle.tx_term.specs.Laws.{BytesFollow, NoBytesChangeNothing, BytesKeepTheSize, UpdatesLead, WholeUpdatesLead, UpdatesWithoutMarksAreEmpty, EqualGridsSendNothing, WholeUpdatesTake, UpdatesKeepTheModes, ClosingGivesBack};
 
 /// Bytes may be read in parts: those of the first part and then those of the second one do what
 /// all of them do.
@@ -38,6 +38,11 @@ pub fn whole_updates_lead()
 /// An update that isn't whole has no bytes exactly where it has no marks: no cell to write.
 pub fn updates_without_marks_are_empty()
     ensures law { UpdatesWithoutMarksAreEmpty }
+{}
+
+/// Where a terminal shows the next grid already, an update that isn't whole has no bytes.
+pub fn equal_grids_send_nothing()
+    ensures law { EqualGridsSendNothing }
 {}
 
 /// After a whole update the cursor is hidden and the screen is the alternate one, whatever the
