@@ -1,6 +1,6 @@
 //! Spans, and the cells of a grid that they take.
 
-ghost use Rattle.std.specs.Prelude.{◌≡◌, ◌<◌, ◌^◌};
+ghost use Rattle.std.specs.Prelude.{◌≡◌, ◌<◌, ◌^◌, [], ◌∷◌};
 ghost use Rattle.tx_grid.specs.Standing.{rows_used};
 
 /// The columns and rows that a child of a grid asks for, each from 1 to 100.
@@ -28,9 +28,18 @@ pub fn rows_used(places: &[Option<Cells>]) -> u32
 {
     let mut used = 0;
     for place in places {
-        if let Some(cells) = place {
-            used = used.max(cells.row + cells.rows);
-        }
+        used = used.max(end_of(*place));
     }
     used
+}
+
+// The row after the last one of a child, and 0 where it isn't placed.
+fn end_of(place: Option<Cells>) -> u32
+    requires { rows_used (place ∷ []) < 2 ^ 32 }
+    ensures { result ≡ rows_used (place ∷ []) }
+{
+    match place {
+        None => 0,
+        Some(cells) => cells.row + cells.rows,
+    }
 }
