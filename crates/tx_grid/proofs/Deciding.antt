@@ -1,10 +1,10 @@
 -- The tests of a place decide what they are named for.
-use Rattle.std.proofs.Common.{◌≡◌, ℕ, zero, suc, ◌+◌, ◌<◌, ◌≤◌, ◌⊎◌, min, max, nat_le, leb, Bool, true, false, ◌&&◌, ◌||◌, List, [], ◌∷◌, Option, Some, None, IfSome, All, Decides, refl, inl, inr, arith}
+use Rattle.std.proofs.Common.{ℕ, ◌+◌, ◌≤◌, ◌⊎◌, min, max, nat_le, List, [], ◌∷◌, Option, Some, None, IfSome, Decides, refl, inl, inr, arith}
 use Rattle.std.proofs.lemmas.Bool.{cases_lt}
 use Rattle.std.proofs.lemmas.Bool.Decides.{Decides-like, Decides-and, Decides-or, nat_tests}
 use Rattle.std.proofs.lemmas.List.Elements.{All-nil, All-cons, All-head, All-tail}
 use Rattle.tx_grid.specs.declared.places.Cells.{Cells}
-use Rattle.tx_grid.specs.Standing.{Holds, SharesNoCell, IsFree, Fits, are_apart, is_free, is_inside, fits}
+use Rattle.tx_grid.specs.Standing.{SharesNoCell, IsFree, Fits, are_apart, is_free, is_inside, fits}
 
 Decides-le : (a b : ℕ) → Decides (nat_le a b) (a ≤ b)
 Decides-le a b = (λ h. grind (arith, nat_tests), λ h. grind (arith, nat_tests))

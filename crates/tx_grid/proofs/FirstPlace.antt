@@ -1,11 +1,11 @@
 -- The first place as a function is the one that the relation allows.
-use Rattle.std.proofs.Common.{◌≡◌, ℕ, zero, suc, ◌+◌, ◌<◌, ◌≤◌, ◌⊎◌, ◌↔◌, max, Bool, true, false, true≢false, if◌then◌else◌, List, [], ◌∷◌, Option, Some, None, IfSome, All, refl, sym, ap, ◌∙◌, subst, inl, inr, arith}
+use Rattle.std.proofs.Common.{◌≡◌, ℕ, zero, suc, ◌+◌, ◌<◌, ◌≤◌, ◌⊎◌, ◌↔◌, Bool, true, false, true≢false, if◌then◌else◌, List, [], ◌∷◌, Option, Some, None, IfSome, refl, sym, ap, ◌∙◌, subst, inl, inr, arith}
 use Rattle.std.specs.Option.{option_or}
 use Rattle.std.proofs.lemmas.Bool.{cases_lt}
 use Rattle.std.proofs.lemmas.List.Elements.{All-nil, All-cons}
 use Rattle.tx_grid.specs.declared.places.Cells.{Cells}
 use Rattle.tx_grid.specs.declared.places.Spans.{Spans}
-use Rattle.tx_grid.specs.Standing.{cells_at, Holds, SharesNoCell, IsFree, Fits, IsEarlier, IsFirstPlace, StandsAt, fits, rows_used, last_row, first_given, place_in, first_place}
+use Rattle.tx_grid.specs.Standing.{cells_at, IsFree, Fits, IsEarlier, IsFirstPlace, StandsAt, fits, rows_used, last_row, first_given, place_in, first_place}
 use Rattle.tx_grid.proofs.Deciding.{Decides-fits, IsApartFrom}
 
 -- ---- the first that is given

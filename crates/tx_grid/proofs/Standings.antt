@@ -1,12 +1,12 @@
 -- What holds of all places of a list of spans, by recursion on those before.
-use Rattle.std.proofs.Common.{◌≡◌, ◌≢◌, ℕ, zero, suc, ◌+◌, ◌*◌, ◌<◌, ◌≤◌, ◌⊎◌, min, max, List, [], ◌∷◌, ◌++◌, length, take, get_or, Option, Some, None, IfSome, IsSome, All, sum_by, refl, sym, ap, ◌∙◌, subst, append_assoc, append-nil, inl, inr, arith}
+use Rattle.std.proofs.Common.{◌≡◌, ℕ, zero, suc, ◌+◌, ◌<◌, ◌≤◌, max, List, [], ◌∷◌, ◌++◌, length, take, get_or, Option, Some, None, IsSome, All, sum_by, refl, sym, ap, ◌∙◌, subst, append_assoc, append-nil, inl, inr, arith}
 use Rattle.std.proofs.lemmas.Bool.{cases_lt}
 use Rattle.std.proofs.lemmas.List.{get_or-take, length-take-le}
-use Rattle.std.proofs.lemmas.List.Elements.{All-nil, All-cons, All-head, All-tail}
+use Rattle.std.proofs.lemmas.List.Elements.{All-nil, All-cons}
 use Rattle.std.proofs.lemmas.List.Sums.{sum_by-cons}
 use Rattle.tx_grid.specs.declared.places.Cells.{Cells}
 use Rattle.tx_grid.specs.declared.places.Spans.{Spans}
-use Rattle.tx_grid.specs.Standing.{cut, SharesNoCell, IsFirstPlace, StandsAt, first_place, standing, standing_after, rows_used, AreSpans, IsSpan, IsRowCount, IsInside}
+use Rattle.tx_grid.specs.Standing.{cut, SharesNoCell, StandsAt, first_place, standing, standing_after, rows_used}
 use Rattle.tx_grid.specs.Laws.{EachStandsFirst, NoneShareCells, AllArePlaced}
 use Rattle.tx_grid.proofs.Deciding.{IsApartFrom}
 use Rattle.tx_grid.proofs.FirstPlace.{first_stands, not_lower, has_place}

@@ -7,6 +7,8 @@
 pub mod laws;
 mod places;
 mod placing;
+mod search;
+mod taken;
 
 pub use places::{Cells, Spans, rows_used};
 pub use placing::stand;

@@ -1,11 +1,63 @@
 //! The placing of children.
 
-ghost use Rattle.std.specs.Prelude.{◌≡◌, ◌*◌, ◌≤◌, length, All, IfOk, IfSome};
-ghost use Rattle.tx_grid.specs.Standing.{AreSpans, IsInside, IsRowCount, IsSpan, standing, rows_used};
+ghost use Rattle.std.specs.Prelude.{◌≡◌, ◌+◌, ◌*◌, ◌≤◌, length, All, IfOk, OnOk, IfSome};
+ghost use Rattle.tx_grid.specs.Standing.{AreSpans, IsInside, IsRowCount, IsSpan, cut, standing, rows_used};
+ghost use Rattle.tx_grid.specs.Taken.{AddsPlace, IsBoard, StandsOpen};
 
 use crate::places::{Cells, Spans};
+use crate::search::first_open;
+use crate::taken::take;
 use std::alloc::Global;
 use tx_text::NoMemory;
+
+// The span that a child gets.
+fn cut_span(asked: Spans, columns: u32, rows: Option<u32>) -> Spans
+    ensures { result ≡ cut columns rows asked }
+{
+    let height = match rows {
+        None => asked.rows,
+        Some(limit) => asked.rows.min(limit),
+    };
+    Spans {
+        columns: asked.columns.min(columns),
+        rows: height,
+    }
+}
+
+// Where a child with this span stands beside the cells that are taken. It takes its own.
+//
+// For each span `known` has the row up to which it fits nowhere, so that no search begins anew.
+fn place_next(
+    taken: &mut Vec<u128>,
+    known: &mut Vec<u32>,
+    span: Spans,
+    columns: u32,
+    rows: Option<u32>,
+) -> Result<Option<Cells>, NoMemory>
+    requires taken { length taken.old.items ≤ 100 * 65535 }
+    requires board { IsBoard columns rows taken.old.items known.old.items }
+    requires span { AreSpans span }
+    requires columns { columns ≤ 100 }
+    requires width { span.columns ≤ columns }
+    requires rows { IfSome rows IsRowCount }
+    ensures stands { IfOk result (StandsOpen columns rows taken.old.items span) }
+    ensures adds { IfOk result (AddsPlace taken.old.items taken.new.items) }
+    ensures board { OnOk result (IsBoard columns rows taken.new.items known.new.items) }
+    ensures length { OnOk result (length taken.new.items ≤ length taken.old.items + 100) }
+{
+    let number = (100 * span.columns + span.rows) as usize;
+    match first_open(taken, known[number], span, columns, rows) {
+        Some(cells) => {
+            take(taken, cells)?;
+            known[number] = cells.row;
+            Ok(Some(cells))
+        }
+        None => {
+            known[number] = rows.unwrap_or(0);
+            Ok(None)
+        }
+    }
+}
 
 /// Where children with these spans stand in a grid, in document order; None for one that isn't
 /// placed, which comes only where rows are given.
@@ -29,8 +81,13 @@ pub fn stand(
     ensures inside { IfOk result (λ places. All (λ place. IfSome place (IsInside columns rows)) places.items) }
     ensures rows { IfOk result (λ places. rows_used places.items ≤ 100 * length spans.now) }
 {
-    let _ = spans;
-    let refused: Vec<Option<Cells>> = Vec::with_capacity(alloc, 0)?;
-    let _ = refused;
-    Err(std::alloc::AllocError)
+    let mut places = Vec::with_capacity(alloc, spans.len())?;
+    let mut taken: Vec<u128> = Vec::new(alloc);
+    let mut known: Vec<u32> = vec![in alloc; 0; (100 * columns + 101) as usize]?;
+    for asked in spans {
+        let span = cut_span(*asked, columns, rows);
+        let place = place_next(&mut taken, &mut known, span, columns, rows)?;
+        places.push(place)?;
+    }
+    Ok(places)
 }
