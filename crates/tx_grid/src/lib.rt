@@ -12,3 +12,6 @@ mod taken;
 
 pub use places::{Cells, Spans, rows_used};
 pub use placing::stand;
+
+#[cfg(test)]
+mod tests;
