@@ -1,9 +1,11 @@
 pub mod CutLemmas
+pub mod EditLemmas
 pub mod FieldLemmas
 pub mod HeightLemmas
 pub mod LineLemmas
 pub mod LineWholeLemmas
 pub mod PenLemmas
+pub mod ReactionLemmas
 pub mod ResultLemmas
 pub mod RowLemmas
 pub mod ShownLemmas

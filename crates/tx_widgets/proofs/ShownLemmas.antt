@@ -1,5 +1,5 @@
 -- What counts is seen: the cursor, the chosen line, and both ends of a bar.
-use Rattle.std.proofs.Common.{◌≡◌, ◌∙◌, ◌-◌, ◌*◌, ◌/◌, ℕ, [], ◌++◌, replicate, ap, arith, append-nil}
+use Rattle.std.proofs.Common.{◌≡◌, ◌∙◌, ◌-◌, ◌*◌, ◌/◌, ℕ, ◌++◌, replicate, ap, arith, append-nil}
 use Rattle.std.proofs.Math.Nat.{mul-div_cancel, zero-div}
 use Rattle.tx_cell.specs.declared.pen.Pen.{Pen}
 use Rattle.tx_widgets.specs.Drawing.{bar_row, thick, thin}

@@ -7,3 +7,6 @@ pub mod Drawing
 pub mod Measures
 pub mod Laws
 pub mod Frame
+pub mod Editing
+pub mod Reaction
+pub mod ReactionLaws

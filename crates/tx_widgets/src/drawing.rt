@@ -11,5 +11,7 @@ mod rows;
 mod text_rows;
 
 pub use face::Face;
+pub(crate) use form::{line_count, state_of};
 pub use measures::{tall, wide};
+pub(crate) use rows::{box_is_on, chosen_of, cursor_of};
 pub use rows::{line, lines};

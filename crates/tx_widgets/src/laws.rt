@@ -1,6 +1,7 @@
 //! Laws about the definitions, each the contract of a function that does nothing.
 
 ghost use Rattle.tx_widgets.specs.Laws.{BarsReachTheirEnds, BoxesAreWhole, ChosenAreShown, CursorsAreShown, FieldsAreWhole, LinesAreWhole};
+ghost use Rattle.tx_widgets.specs.ReactionLaws.{ReactionsAreModest};
 
 /// A Checkbox that is as wide as it wants, where that number isn't cut, shows its first line whole.
 pub fn boxes_are_whole()
@@ -31,4 +32,10 @@ pub fn chosen_are_shown()
 /// A ProgressBar of which nothing is done is all thin, and one that is done is all thick.
 pub fn bars_reach_their_ends()
     ensures law { BarsReachTheirEnds }
+{}
+
+/// A reaction has at most two effects, its private state is of the kind's form and suits its text,
+/// and only the text of an Input changes, to at most the greater of 65,536 bytes and what it was.
+pub fn reactions_are_modest()
+    ensures law { ReactionsAreModest }
 {}

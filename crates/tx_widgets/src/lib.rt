@@ -10,6 +10,6 @@ mod sight;
 mod tests;
 
 pub use drawing::{Face, line, lines, tall, wide};
-pub use reactions::{Effect, Effects, Message};
+pub use reactions::{Effect, Effects, Held, Message, Reaction, react};
 pub use sight::Sight;
 pub use tx_text::NoMemory;

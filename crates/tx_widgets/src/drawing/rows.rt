@@ -134,7 +134,7 @@ fn list_row(
     option_row(alloc, chosen, face.content.width, face.pen, options, number)
 }
 
-fn chosen_of(private: Private) -> u32
+pub(crate) fn chosen_of(private: Private) -> u32
     ensures { result ≡ chosen_of private }
 {
     match private {
@@ -143,7 +143,7 @@ fn chosen_of(private: Private) -> u32
     }
 }
 
-fn cursor_of(private: Private) -> u32
+pub(crate) fn cursor_of(private: Private) -> u32
     ensures { result ≡ cursor_of private }
 {
     match private {
@@ -152,7 +152,7 @@ fn cursor_of(private: Private) -> u32
     }
 }
 
-fn box_is_on(private: Private) -> bool
+pub(crate) fn box_is_on(private: Private) -> bool
     ensures { result ≡ box_is_on private }
 {
     match private {

@@ -73,7 +73,15 @@ impl Effects {
     pub fn copy(&self) -> Result<Effects, NoMemory>
         ensures copy { IfOk result (λ copy. copy ≡ self.now) }
     {
-        let items = Vec::from_slice(*self.items.allocator(), self.items.as_slice())?;
+        Effects::of(*self.items.allocator(), self.as_slice())
+    }
+
+    // The list of these effects, of which there are at most 16.
+    pub(crate) fn of(alloc: Global, effects: &[Effect]) -> Result<Effects, NoMemory>
+        requires few { length effects.now ≤ 16 }
+        ensures effects { IfOk result (λ list. list ≡ effects.now) }
+    {
+        let items = Vec::from_slice(alloc, effects)?;
         Ok(Effects { items })
     }
 }

@@ -7,10 +7,7 @@ use tx_tree::{Jump, Key, Name};
 pub enum Message {
     Key(Key),
     /// A click on the cell in column `x` of row `y` of the widget's region, both from 0.
-    Click {
-        x: u32,
-        y: u32,
-    },
+    Click { x: u32, y: u32 },
     /// So much more of the work of a ProgressBar is done.
     Advance(u32),
     /// A Button was pressed.

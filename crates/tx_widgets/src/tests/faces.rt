@@ -27,7 +27,11 @@ pub(crate) fn kind_of(word: &str) -> Option<Kind>
         "OptionList" => Some(Kind::OptionList),
         "ProgressBar" => Some(Kind::ProgressBar),
         "Screen" => Some(Kind::Screen),
+        "Container" => Some(Kind::Container),
         "Vertical" => Some(Kind::Vertical),
+        "Horizontal" => Some(Kind::Horizontal),
+        "Grid" => Some(Kind::Grid),
+        "VerticalScroll" => Some(Kind::VerticalScroll),
         _ => None,
     }
 }
@@ -37,7 +41,7 @@ pub(crate) fn number_of(digits: &str) -> Option<u32> {
 }
 
 // The private state that a word says: p, on, off, c3 at byte 3, n2 for line 2, b1/4.
-fn private_of(word: &str) -> Option<Private> {
+pub(crate) fn private_of(word: &str) -> Option<Private> {
     match word {
         "p" => return Some(Private::Plain),
         "on" => return Some(Private::On(true)),
