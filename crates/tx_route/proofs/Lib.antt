@@ -1,0 +1,6 @@
+pub mod Counted
+pub mod Kept
+pub mod Steps
+pub mod Paths
+pub mod Missed
+pub mod There

@@ -1,0 +1,7 @@
+pub mod Bindings
+pub mod Deliveries
+pub mod Focus
+pub mod Pressing
+pub mod Pointing
+pub mod Changing
+pub mod Routing
