@@ -22,7 +22,7 @@ use Rattle.tx_tree.specs.declared.bind.Key.TheVariants.{Char, Enter, Escape, Tab
 use Rattle.tx_tree.specs.declared.kind.Kind.{Kind}
 use Rattle.tx_tree.specs.declared.kind.Private.{Private}
 use Rattle.tx_tree.specs.declared.kind.Private.TheVariants.{Plain, Cursor, On, Chosen, Bar}
-use Rattle.tx_tree_file.proofs.AgainParts.{word-again, no_blank, name-no_blank, named, later-stops, id-later, id-again, classes-later, class_list-again, disabled-later, disabled-again, private-later, private-again, number-again, decimal-no_blank, decimal-digits, same-bytes, text-later, inline-later, text-again, inline-again, kind-again}
+use Rattle.tx_tree_file.proofs.AgainParts.{word-again, name-no_blank, named, later-stops, id-later, id-again, classes-later, class_list-again, disabled-later, disabled-again, private-later, private-again, number-again, decimal-no_blank, decimal-digits, same-bytes, text-later, inline-later, text-again, inline-again, kind-again}
 use Rattle.tx_tree_file.proofs.Fronts.{none-some, same-byte, self-byte}
 use Rattle.tx_tree_file.proofs.Utf8Lemmas.{name_utf8}
 use Rattle.tx_tree_file.specs.Parts.{word, flag, flag_by, kind_of, id_of, classes_of, private_of, text_of, inline_of, function_by, or_key, long_key, only_char, key_by, key_of, named_actions, or_toggle, action_of}
@@ -41,6 +41,7 @@ use Rattle.tx_tree_file.specs.Indent.{blanks, past_blanks, starts_bind, ends_wor
 use Rattle.tx_tree_file.specs.Spelling.{indent, row_text, bind_text, priority_part}
 use Rattle.tx_tree_file.specs.TreeFile.{is_typed, bind_is_typed}
 use Rattle.tx_tree_file.specs.TreeReading.{◌>>=◌, row_of, bind_by, bind_of, item_of, binding, widget, row_item, bind_item}
+use Rattle.tx_tree_file.specs.Words.{no_blank}
 use Rattle.tx_tree_file.specs.declared.line.Item.TheVariants.{Binding, Widget}
 
 -- ---- ASCII

@@ -24,6 +24,7 @@ use Rattle.tx_tree_file.proofs.Utf8Lemmas.{name_utf8}
 use Rattle.tx_tree_file.specs.Parts.{word, past_word, name_of, flag, flag_by, or_handed, kind_of, id_of, id_by, classes_within, class_by, classes_of, is_total, total_of, bar_by, box_by, private_by, private_of, is_plain, put_front, quoted, some_text, text_by, text_of, before_brace, inline_of}
 use Rattle.tx_tree_file.specs.Spelling.{id_part, class_part, class_parts, disabled_part, private_part, escaped, text_part, inline_part}
 use Rattle.tx_tree_file.specs.TreeFile.{id_is_typed, kind_is_typed, kept}
+use Rattle.tx_tree_file.specs.Words.{no_blank, Stops}
 
 -- ---- what may stand behind a part
 
@@ -52,14 +53,6 @@ not_next d part k (b ∷ c ∷ bytes) h l =
     ap (λ (x : ℕ). cond (x == 32) (cond (c == d) (behind part bytes) None) None) l.0 ∙ ap (λ (x : Bool). cond x (behind part bytes) None) other
 
 -- ---- words
-
-abbrev pub no_blank : ℕ → Bool
-no_blank byte = not (byte == 32)
-
--- a word ends where nothing stands, or a blank
-abbrev pub Stops : List ℕ → Type 0
-Stops [] = Unit {0}
-Stops (b ∷ bytes) = b ≡ 32
 
 pub later-stops : (k : ℕ) (bytes : List ℕ) → Later k bytes → Stops bytes
 later-stops k [] l = tt
@@ -204,7 +197,7 @@ number-again limit n h e =
 digit-no_blank : (d : ℕ) → is_ascii_digit d ≡ true → no_blank d ≡ true
 digit-no_blank d h = grind (arith, nat_tests)
 
-digits-no_blank : (ds : List ℕ) → list_all is_ascii_digit ds ≡ true → list_all no_blank ds ≡ true
+pub digits-no_blank : (ds : List ℕ) → list_all is_ascii_digit ds ≡ true → list_all no_blank ds ≡ true
 digits-no_blank [] h = refl
 digits-no_blank (d ∷ ds) h = and_from (no_blank d) (list_all no_blank ds) (digit-no_blank d (and_parts _ _ h).0) (digits-no_blank ds (and_parts (is_ascii_digit d) _ h).1)
 
@@ -295,7 +288,7 @@ pub inline-later : (inline : List ℕ) → Later 6 (inline_part inline)
 inline-later [] = tt
 inline-later (byte ∷ bytes) = (refl, omega arith)
 
-quoted-again : (text bytes : List ℕ) → list_all byte_is_spelled text ≡ true → quoted false (flat_map escaped text ++ (34 ∷ bytes)) ≡ Some (text, bytes)
+pub quoted-again : (text bytes : List ℕ) → list_all byte_is_spelled text ≡ true → quoted false (flat_map escaped text ++ (34 ∷ bytes)) ≡ Some (text, bytes)
 quoted-again [] bytes h = refl
 quoted-again (byte ∷ text) bytes h = ap (quoted false) (append_assoc (escaped byte) (flat_map escaped text) (34 ∷ bytes)) ∙ by (byte == 34) (byte == 92) (byte == 10) refl refl refl (quoted-again text bytes (and_parts (byte_is_spelled byte) _ h).1)
   where
@@ -328,7 +321,7 @@ text-again (byte ∷ text) bytes h u l =
     ∙ ap (option_and_then f) (quoted-again all bytes h)
     ∙ ap (option_map (λ (t : List ℕ). (t, bytes))) (some-again byte text u)
 
-brace-again : (text : List ℕ) → before_brace (text ++ codes "}") ≡ Some text
+pub brace-again : (text : List ℕ) → before_brace (text ++ codes "}") ≡ Some text
 brace-again text =
     let size : length (text ++ codes "}") - 1 ≡ length text = (let a = length-append text (codes "}") in omega (arith, a)) in
     ap (λ (n : ℕ). cond (bytes_eq (drop n (text ++ codes "}")) (codes "}")) (Some (take n (text ++ codes "}"))) None) size

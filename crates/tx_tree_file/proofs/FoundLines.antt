@@ -142,7 +142,7 @@ escaped-long byte = by (byte == 34) (byte == 92) (byte == 10)
     by false false true = omega arith
     by false false false = omega arith
 
-all_escaped-long : (text : List ℕ) → length text ≤ length (flat_map escaped text)
+pub all_escaped-long : (text : List ℕ) → length text ≤ length (flat_map escaped text)
 all_escaped-long [] = omega arith
 all_escaped-long (byte ∷ text) =
     let a = all_escaped-long text in

@@ -304,7 +304,7 @@ text-found bytes found h = by (behind (codes " \"") bytes) refl h
           utf8,
         )
 
-before_brace-found : (bytes text : List ℕ) → before_brace bytes ≡ Some text → bytes ≡ text ++ codes "}"
+pub before_brace-found : (bytes text : List ℕ) → before_brace bytes ≡ Some text → bytes ≡ text ++ codes "}"
 before_brace-found bytes text h =
     let (is, same) = if-inv (bytes_eq (drop (length bytes - 1) bytes) (codes "}")) (Some (take (length bytes - 1) bytes)) text h in
     sym (take-append-drop (length bytes - 1) bytes) ∙ ap₂ (λ (x y : List ℕ). x ++ y) (some-same same) (same_bytes _ _ is)

@@ -15,3 +15,4 @@ pub mod AgainLines
 pub mod Faults
 pub mod AgainFile
 pub mod OneFault
+pub mod lemmas

@@ -36,7 +36,7 @@ use Rattle.tx_tree_file.proofs.LastRows.{more_lines}
 use Rattle.tx_tree_file.proofs.Whole.{first-cut, screen-inv, bind_stands-inv}
 
 -- a line at the end
-cut-last : (line : List ℕ) → list_all no_line_feed line ≡ true → pieces 10 line ≡ line ∷ []
+pub cut-last : (line : List ℕ) → list_all no_line_feed line ≡ true → pieces 10 line ≡ line ∷ []
 cut-last [] h = refl
 cut-last (b ∷ line) h =
     let other : (b == 10) ≡ false = not_inv (b == 10) (and_parts (no_line_feed b) _ h).0 in

@@ -6,3 +6,4 @@ pub mod Parts
 pub mod TreeReading
 pub mod Sections
 pub mod Laws
+pub mod Words

@@ -106,7 +106,8 @@ fn char_key(c: char) -> Option<Key>
     }
 }
 
-fn key_of(name: &[u8]) -> Option<Key>
+/// The key of this name.
+pub fn key_of(name: &[u8]) -> Option<Key>
     ensures { result ≡ key_of name.now }
 {
     let Some(text) = as_text(name) else {

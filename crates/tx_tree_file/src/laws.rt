@@ -1,6 +1,7 @@
 //! What holds of tree files, as contracts of functions that do nothing.
 
 ghost use Rattle.tx_tree_file.specs.Laws.{FilesAreRead, OneText, OneFault, ReadAgain};
+ghost use Rattle.tx_tree_file.specs.Words.{WordsAreRead};
 
 /// A file is read exactly where it spells a tree, and as that tree.
 pub fn files_are_read()
@@ -21,4 +22,9 @@ pub fn read_again()
 /// What is told of a file is its first fault, and it has only one.
 pub fn one_fault()
     ensures { OneFault }
+{}
+
+/// The words that other texts have too are read exactly where they are spelled.
+pub fn words_are_read()
+    ensures { WordsAreRead }
 {}

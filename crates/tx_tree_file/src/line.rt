@@ -46,8 +46,9 @@ fn kept(kind: &Kind, text: &Text, state: &Private) -> Private
     }
 }
 
-// The row that a line spells behind its indent, without its bindings.
-fn row_of(alloc: Global, bytes: &[u8]) -> Result<Option<NewRow>, AllocError>
+/// The row that a line spells behind its indent, without its bindings. None where it spells none.
+/// The row has the private state of its kind, but for `on` and the total of a bar.
+pub fn row_of(alloc: Global, bytes: &[u8]) -> Result<Option<NewRow>, AllocError>
     requires { length bytes.now < 2 ^ 32 }
     ensures { IfOk result (λ r. r ≡ row_of bytes.now) }
 {

@@ -150,8 +150,10 @@ fn escaped(byte: u8) -> Option<u8>
     }
 }
 
-// The text up to the closing quote, and the bytes behind that.
-fn quoted(alloc: Global, bytes: &[u8]) -> Result<Option<(Vec<u8>, &[u8])>, AllocError>
+/// The text up to the closing quote, and the bytes behind that; the opening one stands before.
+/// `\"`, `\\` and `\n` stand for a quote, a backslash and a line feed; no other byte below 0x20
+/// but the tab may stand there. None where the bytes go on otherwise or have no closing quote.
+pub fn quoted(alloc: Global, bytes: &[u8]) -> Result<Option<(Vec<u8>, &[u8])>, AllocError>
     ensures { IfOk result (λ r. option_map (λ found. (found.0.items, found.1.now)) r ≡ quoted false bytes.now) }
 {
     let mut text = Vec::new(alloc);
@@ -207,7 +209,8 @@ pub fn text_of(alloc: Global, bytes: &[u8]) -> Result<Option<(Text, &[u8])>, All
     }
 }
 
-fn before_brace(bytes: &[u8]) -> Option<&[u8]>
+/// What stands before a closing brace that is the last byte.
+pub fn before_brace(bytes: &[u8]) -> Option<&[u8]>
     ensures { option_map (λ text. text.now) result ≡ before_brace bytes.now }
 {
     bytes.strip_suffix(b"}")
