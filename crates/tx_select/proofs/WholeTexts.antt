@@ -34,7 +34,7 @@ refused-at one other is = cc
 not-refused : (selector : SelectorValue) (place : ℕ) → IsRefused (Ok selector) place → ⊥
 not-refused selector place is = cc
 
-found-text : (text : List ℕ) (selector : SelectorValue) (fault : Option Fault) (read : Read (List Compound)) → (lexed text).fault ≡ fault → whole_at (tokens_of text) ≡ read
+pub found-text : (text : List ℕ) (selector : SelectorValue) (fault : Option Fault) (read : Read (List Compound)) → (lexed text).fault ≡ fault → whole_at (tokens_of text) ≡ read
     → IsJudged (judged text fault read) selector → IsSelectorText text selector
 found-text text selector None (Ok found) sound is judges =
     let same : found.0 ≡ selector.compounds = ap (λ (s : SelectorValue). s.compounds) (judged-some (record { compounds = found.0 }) selector judges) in
@@ -43,7 +43,7 @@ found-text text selector (Some fault) (Ok found) sound is judges = absurd (judge
 found-text text selector None (Err wrong) sound is judges = absurd (judged-none (place_of (end_of text None) wrong.1) selector judges)
 found-text text selector (Some fault) (Err wrong) sound is judges = absurd (judged-none (place_of (end_of text (Some fault)) wrong.1) selector judges)
 
-text-again : (text : List ℕ) (selector : SelectorValue) → IsSelectorText text selector → selector_of text ≡ Ok selector
+pub text-again : (text : List ℕ) (selector : SelectorValue) → IsSelectorText text selector → selector_of text ≡ Ok selector
 unfolding selector_of
 text-again text selector is =
     ap (judged text (lexed text).fault) (whole-again (tokens_of text) selector.compounds is.grammar)

@@ -2,3 +2,4 @@
 pub mod Ancestry
 pub mod Placed
 pub mod SelectorLaws
+pub mod TextLaws
