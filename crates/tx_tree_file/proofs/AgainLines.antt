@@ -49,7 +49,7 @@ use Rattle.tx_tree_file.specs.declared.line.Item.TheVariants.{Binding, Widget}
 abbrev pub is_low : ℕ → Bool
 is_low byte = nat_lt byte 128
 
-ascii : (bytes : List ℕ) → list_all is_low bytes ≡ true → IsAscii bytes
+pub ascii : (bytes : List ℕ) → list_all is_low bytes ≡ true → IsAscii bytes
 ascii [] h i = lit< tt
 ascii (b ∷ bytes) h zero = ltb-true b 128 (and_parts _ _ h).0
 ascii (b ∷ bytes) h (suc i) = ascii bytes (and_parts (is_low b) _ h).1 i

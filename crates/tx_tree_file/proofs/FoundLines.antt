@@ -33,7 +33,7 @@ bind-inv f (Some x) y h = (x, refl, h)
 
 -- ---- what is found in a list
 
-find-found : {A : Type 0} (name : List ℕ) (f : A → List ℕ) (xs : List A) (y : A) → find (λ x. bytes_eq name (f x)) xs ≡ Some y → name ≡ f y
+pub find-found : {A : Type 0} (name : List ℕ) (f : A → List ℕ) (xs : List A) (y : A) → find (λ x. bytes_eq name (f x)) xs ≡ Some y → name ≡ f y
 find-found name f [] y h = none-some h
 find-found name f (x ∷ xs) y h = by (bytes_eq name (f x)) refl (find-found name f xs y) h
   where
@@ -130,7 +130,7 @@ row-found bytes new h0 =
 
 -- ---- the text of a row is shorter than its line
 
-suffix-short : (all part rest : List ℕ) → all ≡ part ++ rest → length rest ≤ length all
+pub suffix-short : (all part rest : List ℕ) → all ≡ part ++ rest → length rest ≤ length all
 suffix-short all part rest e = let a = ap length e ∙ length-append part rest in omega (arith, a)
 
 escaped-long : (byte : ℕ) → 1 ≤ length (escaped byte)
