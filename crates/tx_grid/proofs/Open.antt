@@ -7,7 +7,7 @@ use Rattle.std.proofs.lemmas.Nat.Bits.{bit_at-zero}
 use Rattle.tx_grid.specs.declared.places.Cells.{Cells}
 use Rattle.tx_grid.specs.declared.places.Spans.{Spans}
 use Rattle.tx_grid.specs.Standing.{cells_at}
-use Rattle.tx_grid.specs.Taken.{IsOpenAt, IsOpenFrom, Joins, IsNextOpen, IsOpenIn, IsFirstInRow, IsNextRow, FitsOpen, IsFirstOpen}
+use Rattle.tx_grid.specs.Taken.{IsOpenAt, IsOpenFrom, Joins, IsNextOpen, IsOpenIn, IsFirstInRow, IsNextRow, FitsOpen, FitsInNoRowBefore, IsFirstOpen}
 use Rattle.tx_grid.proofs.Bits.{or_open}
 
 -- ---- one row, with the rows below it joined
@@ -84,20 +84,16 @@ next_row columns taken span row end mask column bits e l j none = record {
 
 -- ---- the first place
 
--- the span fits in no row before this one
-abbrev pub IsClosedBefore : ℕ → Option ℕ → List ℕ → Spans → ℕ → Type 0
-IsClosedBefore columns rows taken span row = (r c : ℕ) → r < row → FitsOpen columns rows taken (cells_at span r c) → ⊥
-
 pub open_in : (columns : ℕ) (rows : Option ℕ) (taken : List ℕ) (cells : Cells) → FitsOpen columns rows taken cells → IsOpenIn columns taken cells
 open_in columns rows taken cells f = record { in_columns = f.in_columns; are_open = f.are_open }
 
 pub closed_to : (columns : ℕ) (rows : Option ℕ) (taken : List ℕ) (span : Spans) (row next : ℕ)
-    → IsClosedBefore columns rows taken span row → IsNextRow columns taken span row next → IsClosedBefore columns rows taken span next
+    → FitsInNoRowBefore columns rows taken span row → IsNextRow columns taken span row next → FitsInNoRowBefore columns rows taken span next
 closed_to columns rows taken span row next before n r c l f =
     elim (cases_lt r row) [ inl m ↦ before r c m f | inr m ↦ n.closed r c m l (open_in columns rows taken _ f) ]
 
 pub first_there : (columns : ℕ) (rows : Option ℕ) (taken : List ℕ) (span : Spans) (row column : ℕ)
-    → IfSome rows (λ limit. row + span.rows ≤ limit) → IsClosedBefore columns rows taken span row
+    → IfSome rows (λ limit. row + span.rows ≤ limit) → FitsInNoRowBefore columns rows taken span row
     → IsFirstInRow columns taken span row column → IsFirstOpen columns rows taken span (cells_at span row column)
 first_there columns rows taken span row column inside before f = record {
   of_span = refl;
@@ -113,7 +109,7 @@ pub past_open : (taken : List ℕ) (x y : ℕ) → length taken ≤ y → IsOpen
 past_open taken x y l = ap (λ n. bit_at n x) (get_or_past taken y 0 l) ∙ bit_at-zero x
 
 pub first_past : (columns : ℕ) (rows : Option ℕ) (taken : List ℕ) (span : Spans) (row : ℕ) → length taken ≤ row → span.columns ≤ columns
-    → IfSome rows (λ limit. row + span.rows ≤ limit) → IsClosedBefore columns rows taken span row
+    → IfSome rows (λ limit. row + span.rows ≤ limit) → FitsInNoRowBefore columns rows taken span row
     → IsFirstOpen columns rows taken span (cells_at span row 0)
 first_past columns rows taken span row l w inside before =
     first_there columns rows taken span row 0 inside before (record {
@@ -126,7 +122,7 @@ lower None row r height l h = tt
 lower (Some limit) row r height l h = omega (arith, l, h)
 
 pub nowhere : (columns : ℕ) (rows : Option ℕ) (taken : List ℕ) (span : Spans) (row : ℕ)
-    → (IfSome rows (λ limit. row + span.rows ≤ limit) → ⊥) → IsClosedBefore columns rows taken span row
+    → (IfSome rows (λ limit. row + span.rows ≤ limit) → ⊥) → FitsInNoRowBefore columns rows taken span row
     → (r c : ℕ) → FitsOpen columns rows taken (cells_at span r c) → ⊥
 nowhere columns rows taken span row outside before r c f =
     elim (cases_lt r row) [ inl l ↦ before r c l f | inr l ↦ outside (lower rows row r span.rows l f.in_rows) ]

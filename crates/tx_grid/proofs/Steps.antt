@@ -8,7 +8,7 @@ use Rattle.std.proofs.lemmas.List.Elements.{All-nil, All-push, All-pop}
 use Rattle.tx_grid.specs.declared.places.Cells.{Cells}
 use Rattle.tx_grid.specs.declared.places.Spans.{Spans}
 use Rattle.tx_grid.specs.Standing.{Holds, SharesNoCell, Fits, StandsAt, cells_at, cut, first_place, standing_after, rows_used, AreSpans, IsSpan, IsRowCount, IsInside}
-use Rattle.tx_grid.specs.Taken.{Shows, Adds, AddsPlace, FitsOpen, IsFirstOpen, StandsOpen, Knows, IsBoard, span_number}
+use Rattle.tx_grid.specs.Taken.{Shows, Adds, AddsPlace, FitsOpen, IsFirstOpen, StandsOpen, Knows, FitsInNoRowBefore, IsBoard, span_number}
 use Rattle.tx_grid.proofs.FirstPlace.{stands_is_first}
 use Rattle.tx_grid.proofs.Open.{past_open, lower}
 use Rattle.tx_grid.proofs.Standings.{rows_used-stands}
@@ -131,40 +131,57 @@ low_set known n value most w v low k =
       ]
     ]
 
-board_set : (columns : ℕ) (rows : Option ℕ) (old new known : List ℕ) (span : Spans) (row : ℕ) → IsBoard columns rows old known → AreSpans span → span.columns ≤ columns
-    → row ≤ 100 * 65536 → ((r c : ℕ) → r < row → FitsOpen columns rows new (cells_at span r c) → ⊥)
-    → ((cells : Cells) → FitsOpen columns rows new cells → FitsOpen columns rows old cells)
-    → IsBoard columns rows new (slice_set known (span_number span.columns span.rows) row)
-board_set columns rows old new known span row b s w low none still =
-    let inside = number_within columns rows old known span b s w in
+pub board_set : (columns : ℕ) (rows : Option ℕ) (taken known : List ℕ) (span : Spans) (row : ℕ) → AreSpans span → span.columns ≤ columns → row ≤ 100 * 65536
+    → IsBoard columns rows taken known → FitsInNoRowBefore columns rows taken span row
+    → IsBoard columns rows taken (slice_set known (span_number span.columns span.rows) row)
+board_set columns rows taken known span row s w low b none =
+    let inside = number_within columns rows taken known span b s w in
     record {
       count = length-set known (span_number span.columns span.rows) row ∙ b.count;
       low = low_set known (span_number span.columns span.rows) row (100 * 65536) inside low b.low;
-      knows = knows_set columns rows new known span row s inside none
-          (λ width height r c within l f. b.knows width height r c within l (still (cells_at (spans width height) r c) f));
+      knows = knows_set columns rows taken known span row s inside none b.knows;
     }
 
-pub board_placed : (columns : ℕ) (rows : Option ℕ) (old new known : List ℕ) (span : Spans) (cells : Cells) → IsBoard columns rows old known → AreSpans span → span.columns ≤ columns
-    → length old ≤ 100 * 65535 → IsFirstOpen columns rows old span cells → Adds old new cells
-    → IsBoard columns rows new (slice_set known (span_number span.columns span.rows) cells.row)
-board_placed columns rows old new known span cells b s w short first adds =
-    board_set columns rows old new known span cells.row b s w (omega (arith, short, open_not_lower columns rows old span cells first))
-    (λ r c l f. first.first r c (inl l) (still_open columns rows old new cells (cells_at span r c) adds f))
-    (λ c f. still_open columns rows old new cells c adds f)
+pub board_kept : (columns : ℕ) (rows : Option ℕ) (old new known : List ℕ) (cells : Cells) → Adds old new cells → IsBoard columns rows old known → IsBoard columns rows new known
+board_kept columns rows old new known cells adds b =
+    record {
+      count = b.count;
+      low = b.low;
+      knows = λ width height r c within l f. b.knows width height r c within l (still_open columns rows old new cells (cells_at (spans width height) r c) adds f);
+    }
 
-pub board_none : (columns : ℕ) (rows : Option ℕ) (taken known : List ℕ) (span : Spans) (row : ℕ) → IsBoard columns rows taken known → AreSpans span → span.columns ≤ columns
-    → row ≤ 100 * 65536 → ((r c : ℕ) → FitsOpen columns rows taken (cells_at span r c) → ⊥)
-    → IsBoard columns rows taken (slice_set known (span_number span.columns span.rows) row)
-board_none columns rows taken known span row b s w low none = board_set columns rows taken taken known span row b s w low (λ r c l f. none r c f) (λ c f. f)
+-- before its first place a span fits in no row
+pub none_before_first : (columns : ℕ) (rows : Option ℕ) (old new : List ℕ) (span : Spans) (cells : Cells) → IsFirstOpen columns rows old span cells → Adds old new cells
+    → FitsInNoRowBefore columns rows new span cells.row
+none_before_first columns rows old new span cells first adds r c l f = first.first r c (inl l) (still_open columns rows old new cells (cells_at span r c) adds f)
+
+pub first_low : (columns : ℕ) (rows : Option ℕ) (taken : List ℕ) (span : Spans) (cells : Cells) → IsFirstOpen columns rows taken span cells → length taken ≤ 100 * 65535
+    → cells.row ≤ 100 * 65536
+first_low columns rows taken span cells first short = omega (arith, short, open_not_lower columns rows taken span cells first)
+
+less_high : (rows : Option ℕ) (row low high : ℕ) → low ≤ high → IfSome rows (λ limit. row + high ≤ limit) → IfSome rows (λ limit. row + low ≤ limit)
+less_high None row low high l h = tt
+less_high (Some limit) row low high l h = omega (arith, l, h)
+
+-- where a span fits nowhere, none fits that is as wide and as high
+pub larger_fits_nowhere : (columns : ℕ) (rows : Option ℕ) (taken : List ℕ) (span larger : Spans) (row : ℕ) → span.columns ≤ larger.columns → span.rows ≤ larger.rows
+    → FitsInNoRowBefore columns rows taken span row → FitsInNoRowBefore columns rows taken larger row
+larger_fits_nowhere columns rows taken span larger row w h none r c l f =
+    none r c l (record {
+      in_columns = omega (arith, w, f.in_columns);
+      in_rows = less_high rows r span.rows larger.rows h f.in_rows;
+      are_open = λ x y p. f.are_open x y (record {
+        from_left = p.from_left;
+        to_right = omega (arith, w, p.to_right);
+        from_top = p.from_top;
+        to_bottom = omega (arith, h, p.to_bottom);
+      });
+    })
 
 -- a child ends at most its own rows below those that are kept
 pub end_of_first : (columns : ℕ) (rows : Option ℕ) (taken : List ℕ) (span : Spans) (cells : Cells) → IsFirstOpen columns rows taken span cells
     → cells.row + cells.rows ≤ length taken + span.rows
 end_of_first columns rows taken span cells s = omega (arith, open_not_lower columns rows taken span cells s, ap (λ p. p.rows) s.of_span)
-
-pub rows_low : (rows : Option ℕ) → IfSome rows IsRowCount → unwrap_or rows 0 ≤ 100 * 65536
-rows_low None h = omega arith
-rows_low (Some limit) h = omega (arith, h.most)
 
 empty_known : (n k : ℕ) → slice_index (replicate n 0) k ≡ 0
 empty_known n k =

@@ -77,6 +77,10 @@ AddsColumns old new column width = (x : ℕ) → (bit_at new x ≡ 0) ↔ ((bit_
 abbrev pub Adds : List ℕ → List ℕ → Cells → Type 0
 Adds old new cells = (x y : ℕ) → IsOpenAt new x y ↔ (IsOpenAt old x y × ¬ Holds cells x y)
 
+-- the span fits in no row before this one
+abbrev pub FitsInNoRowBefore : ℕ → Option ℕ → List ℕ → Spans → ℕ → Type 0
+FitsInNoRowBefore columns rows taken span row = (r c : ℕ) → r < row → FitsOpen columns rows taken (cells_at span r c) → ⊥
+
 -- for each span, the row up to which it is known to fit nowhere
 abbrev pub span_number : ℕ → ℕ → ℕ
 span_number width height = 100 * width + height

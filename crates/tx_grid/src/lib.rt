@@ -4,6 +4,7 @@
 //! inside the grid and free of the children before it, as CSS Grid places items with `dense`.
 #![tactic(auto)]
 
+mod known;
 pub mod laws;
 mod places;
 mod placing;

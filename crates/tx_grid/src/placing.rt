@@ -4,6 +4,7 @@ ghost use Rattle.std.specs.Prelude.{◌≡◌, ◌+◌, ◌*◌, ◌≤◌, leng
 ghost use Rattle.tx_grid.specs.Standing.{AreSpans, IsInside, IsRowCount, IsSpan, cut, standing, rows_used};
 ghost use Rattle.tx_grid.specs.Taken.{AddsPlace, IsBoard, StandsOpen};
 
+use crate::known::{number_of, raise};
 use crate::places::{Cells, Spans};
 use crate::search::first_open;
 use crate::taken::take;
@@ -45,15 +46,15 @@ fn place_next(
     ensures board { OnOk result (IsBoard columns rows taken.new.items known.new.items) }
     ensures length { OnOk result (length taken.new.items ≤ length taken.old.items + 100) }
 {
-    let number = (100 * span.columns + span.rows) as usize;
-    match first_open(taken, known[number], span, columns, rows) {
+    let from = known[number_of(span)];
+    match first_open(taken, from, span, columns, rows) {
         Some(cells) => {
             take(taken, cells)?;
-            known[number] = cells.row;
+            raise(known, columns, span, cells.row);
             Ok(Some(cells))
         }
         None => {
-            known[number] = rows.unwrap_or(0);
+            raise(known, columns, span, rows.unwrap_or(0));
             Ok(None)
         }
     }

@@ -1,8 +1,8 @@
 //! The search for the first place of a span.
 
-ghost use Rattle.std.specs.Prelude.{◌≡◌, ℕ, ◌+◌, ◌*◌, ◌≤◌, ◌<◌, ◌↔◌, length, IsTrue, IfSome, MatchResult};
+ghost use Rattle.std.specs.Prelude.{◌≡◌, ◌+◌, ◌*◌, ◌≤◌, ◌↔◌, length, IsTrue, IfSome, MatchResult};
 ghost use Rattle.tx_grid.specs.Standing.{AreSpans, cells_at};
-ghost use Rattle.tx_grid.specs.Taken.{FitsOpen, IsFirstInRow, IsNextRow, StandsOpen};
+ghost use Rattle.tx_grid.specs.Taken.{FitsInNoRowBefore, IsFirstInRow, IsNextRow, StandsOpen};
 
 use crate::places::{Cells, Spans};
 use crate::taken::{next_open, row_at};
@@ -68,7 +68,7 @@ pub fn first_open(
     requires span { AreSpans span }
     requires columns { columns ≤ 100 }
     requires width { span.columns ≤ columns }
-    requires known { (r c : ℕ) → r < from → FitsOpen columns rows taken.now (cells_at span r c) → ⊥ }
+    requires known { FitsInNoRowBefore columns rows taken.now span from }
     ensures { StandsOpen columns rows taken.now span result }
 {
     let mut row = from;

@@ -1,11 +1,11 @@
 use Rattle.std.proofs.Common.{◌≤◌, ◌-◌, ◌*◌, length}
-use Rattle.tx_grid.proofs.Open.{IsClosedBefore}
+use Rattle.tx_grid.specs.Taken.{FitsInNoRowBefore}
 use Rattle.tx_grid.proofs.search.first_open.Given as goal
 
 -- the span fits in no row before this one
 abbrev pub invariant-loop-row : goal.invariant-loop-row
 invariant-loop-row l = record {
-  closed : IsClosedBefore l.columns l.rows l.taken l.span l.row;
+  closed : FitsInNoRowBefore l.columns l.rows l.taken l.span l.row;
   near : l.row ≤ 100 * 65537;
 }
 
