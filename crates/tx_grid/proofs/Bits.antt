@@ -1,14 +1,13 @@
 -- Bits of rows.
-use Rattle.std.proofs.Common.{◌≡◌, ℕ, ◌+◌, ◌-◌, ◌*◌, ◌%◌, ◌^◌, ◌<◌, ◌≤◌, ◌↔◌, bit_and, bit_or, nat_eq, IsTrue, List, length, slice_index, slice_set, get_or-set_other, get_or-set_same, refl, sym, ap, subst, ◌∙◌, inl, inr, arith}
-use Rattle.std.specs.Int.{bit_at}
+use Rattle.std.proofs.Common.{◌≡◌, ℕ, ◌+◌, ◌-◌, ◌*◌, ◌%◌, ◌^◌, ◌<◌, ◌≤◌, ◌↔◌, ◌/◌, bit_and, bit_or, List, length, slice_index, slice_set, get_or-set_other, get_or-set_same, refl, sym, ap, subst, ◌∙◌, inl, inr, arith}
+use Rattle.std.specs.Int.{bit_at, bit_not, trailing_zeros, w128}
 use Rattle.std.proofs.lemmas.Bool.{cases_lt}
-use Rattle.std.proofs.lemmas.Bool.Decides.{Decides-eqb}
-use Rattle.std.proofs.lemmas.Nat.{one_shl}
-use Rattle.std.proofs.lemmas.Nat.Bits.{bit_at_and, bit_at_or, bit_at-zero, bit_at-lt, bit_at_mask_inside, bit_at_mask_below, bit_at_mask_above, same_from_bits}
+use Rattle.std.proofs.lemmas.Nat.{one_shl, shr-shr, shr_le}
+use Rattle.std.proofs.lemmas.Nat.Bits.{bit_at_and, bit_at_or, bit_at-zero, bit_at-lt, bit_at_mask_inside, bit_at_mask_below, bit_at_mask_above, bit_at_not, bit_at-trailing_zeros}
 use Rattle.std.proofs.Math.Pow.{pow_mono}
 use Rattle.tx_grid.specs.declared.places.Cells.{Cells}
 use Rattle.tx_grid.specs.Standing.{Holds}
-use Rattle.tx_grid.specs.Taken.{IsOpenAt, IsOpenFrom, Adds, AddsColumns}
+use Rattle.tx_grid.specs.Taken.{IsOpenAt, IsOpenFrom, IsNextOpen, AreStarts, Adds, AddsColumns}
 
 -- the bits that the code computes
 pub bits_written : (low high : ℕ) → low ≤ high → high < 128
@@ -18,24 +17,6 @@ bits_written low high l m =
     let b = one_shl high 128 m in
     let p : 2 ^ low ≤ 2 ^ high = pow_mono l in
     (omega (arith, a, b, p), omega (arith, a, b))
-
--- where the common bits with a run of ones are none, those of the run are 0
-pub open_from_and : (n low width : ℕ) → bit_and n (2 ^ (low + width) - 2 ^ low) ≡ 0 → IsOpenFrom n low width
-open_from_and n low width h x l m =
-    omega (arith, bit_at_and n (2 ^ (low + width) - 2 ^ low) x, ap (λ k. bit_at k x) h, bit_at-zero x, bit_at_mask_inside low (low + width) x l m, bit_at-lt n x)
-
-none_common : (n low width : ℕ) → IsOpenFrom n low width → (x : ℕ) → bit_at (bit_and n (2 ^ (low + width) - 2 ^ low)) x ≡ bit_at 0 x
-none_common n low width h x =
-    elim (cases_lt x low) [
-      | inl l ↦ omega (arith, bit_at_and n (2 ^ (low + width) - 2 ^ low) x, bit_at-zero x, bit_at_mask_below low (low + width) x l)
-      | inr l ↦ elim (cases_lt x (low + width)) [
-        | inl m ↦ omega (arith, bit_at_and n (2 ^ (low + width) - 2 ^ low) x, bit_at-zero x, h x l m)
-        | inr m ↦ omega (arith, bit_at_and n (2 ^ (low + width) - 2 ^ low) x, bit_at-zero x, bit_at_mask_above low (low + width) x m)
-      ]
-    ]
-
-pub and_from_open : (n low width : ℕ) → IsOpenFrom n low width → bit_and n (2 ^ (low + width) - 2 ^ low) ≡ 0
-and_from_open n low width h = same_from_bits _ 0 (none_common n low width h)
 
 -- a bit of two numbers together is 0 exactly where it is in both
 pub or_open : (a b x : ℕ) → (bit_at (bit_or a b) x ≡ 0) ↔ ((bit_at a x ≡ 0) × (bit_at b x ≡ 0))
@@ -52,13 +33,6 @@ pub adds_columns : (n low width : ℕ) → AddsColumns n (bit_or n (2 ^ (low + w
 adds_columns n low width x =
     let both = or_open n (2 ^ (low + width) - 2 ^ low) x in
     (λ h. ((both.0 h).0, λ l m. omega (arith, (both.0 h).1, bit_at_mask_inside low (low + width) x l m)), λ h. both.1 (h.0, outside low width x h.1))
-
--- the test of the code, for the bits m that it computed
-pub open_test : (n m low width : ℕ) → m ≡ 2 ^ (low + width) - 2 ^ low → IsTrue (nat_eq (bit_and n m) 0) ↔ IsOpenFrom n low width
-open_test n m low width e = (
-  λ h. open_from_and n low width (ap (bit_and n) (sym e) ∙ (Decides-eqb (bit_and n m) 0).0 h),
-  λ h. (Decides-eqb (bit_and n m) 0).1 (ap (bit_and n) e ∙ and_from_open n low width h),
-)
 
 pub adds_written : (n m low width : ℕ) → m ≡ 2 ^ (low + width) - 2 ^ low → AddsColumns n (bit_or n m) low width
 adds_written n m low width e = subst (λ k. AddsColumns n (bit_or n k) low width) (sym e) (adds_columns n low width)
@@ -113,3 +87,71 @@ filled_all old now cells end e f x y =
       | inl l ↦ f.done x y l
       | inr l ↦ (λ h. (ap (λ n. bit_at n x) (sym (f.left y l)) ∙ h, λ p. omega (arith, e, l, p.to_bottom)), λ h. ap (λ n. bit_at n x) (f.left y l) ∙ h.0)
     ]
+
+-- ---- where so many are open
+
+pub starts_one : (n : ℕ) → n < 2 ^ 128 → AreStarts n 1 (bit_not w128 n)
+starts_one n small x l =
+    let b = bit_at_not w128 n x small (omega (arith, l)) in (
+      λ h y from to. (let e : x ≡ y = omega (arith, from, to) in omega (arith, b, h, bit_at-lt n x, ap (λ k. bit_at n k) e)),
+      λ h. omega (arith, b, h x (omega arith) (omega arith)),
+    )
+
+-- a bit of a number that is shifted
+shifted : (n k x : ℕ) → bit_at (n / 2 ^ k) x ≡ bit_at n (k + x)
+shifted n k x = ap (λ m. m % 2) (shr-shr n k x)
+
+pub starts_more : (n count step starts : ℕ) → step ≤ count → AreStarts n count starts → AreStarts n (count + step) (bit_and starts (starts / 2 ^ step))
+starts_more n count step starts l a x w =
+    let both = bit_at_and starts (starts / 2 ^ step) x in
+    let s = shifted starts step x in
+    let low = bit_at-lt starts x in
+    let high = bit_at-lt starts (step + x) in (
+      λ h y from to. elim (cases_lt y (x + count)) [
+        | inl m ↦ (a x (omega (arith, w))).0 (omega (arith, both, s, h, low, high)) y from m
+        | inr m ↦ (a (step + x) (omega (arith, w))).0 (omega (arith, both, s, h, low, high)) y (omega (arith, l, m)) (omega (arith, to))
+      ],
+      λ h.
+          (let first = (a x (omega (arith, w))).1 (λ y from to. h y from (omega (arith, to))) in
+          let second = (a (step + x) (omega (arith, w))).1 (λ y from to. h y (omega (arith, from)) (omega (arith, to))) in
+          omega (arith, both, s, first, second)),
+    )
+
+-- no start from this one on
+pub no_start : (n from width columns starts : ℕ) → columns ≤ 100 → AreStarts n width starts → starts / 2 ^ from ≡ 0
+    → (c : ℕ) → from ≤ c → c + width ≤ columns → IsOpenFrom n c width → ⊥
+no_start n from width columns starts small a e c l w h =
+    let at : from + (c - from) ≡ c = omega (arith, l) in
+    omega (arith, (a c (omega (arith, w, small))).1 h, shifted starts from (c - from), ap (λ k. bit_at starts k) at, ap (λ k. bit_at k (c - from)) e, bit_at-zero (c - from))
+
+-- the first start is the first that is open
+pub start_before : (n from width columns starts zeros : ℕ) → columns ≤ 100 → AreStarts n width starts
+    → ((i : ℕ) → i < zeros → bit_at (starts / 2 ^ from) i ≡ 0)
+    → (c : ℕ) → from ≤ c → c + width ≤ columns → IsOpenFrom n c width → from + zeros ≤ c
+start_before n from width columns starts zeros small a none c l w h =
+    elim (cases_lt c (from + zeros)) [
+      | inr m ↦ m
+      | inl m ↦
+          (let at : from + (c - from) ≡ c = omega (arith, l) in
+          absurd (omega (arith, (a c (omega (arith, w, small))).1 h, shifted starts from (c - from), ap (λ k. bit_at starts k) at, none (c - from) (omega (arith, l, m)))))
+    ]
+
+pub first_start : (n from width columns starts zeros : ℕ) → columns ≤ 100 → AreStarts n width starts → 0 < starts / 2 ^ from → starts < 2 ^ 128
+    → zeros ≡ trailing_zeros w128 (starts / 2 ^ from) → from + zeros + width ≤ columns → IsNextOpen n from width columns (from + zeros)
+first_start n from width columns starts zeros small a some top e inside =
+    let t = subst (λ z. (z < 128) × (bit_at (starts / 2 ^ from) z ≡ 1) × ((i : ℕ) → i < z → bit_at (starts / 2 ^ from) i ≡ 0)) (sym e)
+    (bit_at-trailing_zeros w128 (starts / 2 ^ from) some (omega (arith, top, shr_le starts from))) in
+    record {
+      from_on = omega arith;
+      inside = inside;
+      is_open = (a (from + zeros) (omega (arith, inside, small))).0 (sym (shifted starts from zeros) ∙ t.1);
+      next = λ c l m h. omega (arith, m, start_before n from width columns starts zeros small a t.2 c l (omega (arith, m, inside)) h);
+    }
+
+pub past_last_start : (n from width columns starts zeros : ℕ) → columns ≤ 100 → AreStarts n width starts → 0 < starts / 2 ^ from → starts < 2 ^ 128
+    → zeros ≡ trailing_zeros w128 (starts / 2 ^ from) → columns < from + zeros + width
+    → (c : ℕ) → from ≤ c → c + width ≤ columns → IsOpenFrom n c width → ⊥
+past_last_start n from width columns starts zeros small a some top e outside c l w h =
+    let t = subst (λ z. (i : ℕ) → i < z → bit_at (starts / 2 ^ from) i ≡ 0) (sym e)
+    (bit_at-trailing_zeros w128 (starts / 2 ^ from) some (omega (arith, top, shr_le starts from))).2 in
+    omega (arith, outside, w, start_before n from width columns starts zeros small a t c l w h)

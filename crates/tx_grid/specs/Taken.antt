@@ -21,6 +21,10 @@ Shows taken before = (x y : ℕ) → IsOpenAt taken x y ↔ IsClear before x y
 abbrev pub IsOpenFrom : ℕ → ℕ → ℕ → Type 0
 IsOpenFrom mask column width = (x : ℕ) → column ≤ x → x < column + width → bit_at mask x ≡ 0
 
+-- the bits of a number say where so many bits of another one are 0
+abbrev pub AreStarts : ℕ → ℕ → ℕ → Type 0
+AreStarts mask width starts = (x : ℕ) → x + width ≤ 128 → (bit_at starts x ≡ 1) ↔ IsOpenFrom mask x width
+
 -- a bit of the number is 0 where those of all rows from `from` to `to` are
 abbrev pub Joins : List ℕ → ℕ → ℕ → ℕ → Type 0
 Joins taken from to mask = (x : ℕ) → (bit_at mask x ≡ 0) ↔ ((y : ℕ) → from ≤ y → y < to → IsOpenAt taken x y)

@@ -1,9 +1,10 @@
 //! Which cells of a grid are taken: a number for each row, with a bit for each column. A row past
 //! the last number is free.
 
-ghost use Rattle.std.specs.Prelude.{◌≡◌, ℕ, ◌+◌, ◌-◌, ◌*◌, ◌^◌, ◌≤◌, ◌<◌, ◌↔◌, length, slice_index, min, IsTrue, MatchOption, OnOk, OnErr, max};
+ghost use Rattle.std.specs.Prelude.{◌≡◌, ℕ, ◌+◌, ◌-◌, ◌*◌, ◌^◌, ◌≤◌, ◌<◌, ◌↔◌, length, slice_index, min, MatchOption, OnOk, OnErr, max};
 ghost use Rattle.std.specs.Int.{bit_at};
-ghost use Rattle.tx_grid.specs.Taken.{Adds, AddsColumns, IsNextOpen, IsOpenFrom};
+ghost use Rattle.tx_grid.specs.Standing.{IsSpan};
+ghost use Rattle.tx_grid.specs.Taken.{Adds, AddsColumns, AreStarts, IsNextOpen, IsOpenFrom};
 
 use crate::places::Cells;
 use tx_text::NoMemory;
@@ -16,31 +17,40 @@ fn bits_of(column: u32, width: u32) -> u128
     (1u128 << (column + width)) - (1u128 << column)
 }
 
-// Whether so many columns from one on are open.
-fn is_open(row: u128, column: u32, width: u32) -> bool
-    requires { column + width ≤ 100 }
-    ensures { IsTrue result ↔ IsOpenFrom row column width }
+// The columns from which on so many are open, each as a bit.
+fn starts_of(row: u128, width: u32) -> u128
+    requires { IsSpan width }
+    ensures { AreStarts row width result }
 {
-    row & bits_of(column, width) == 0
+    let mut starts = !row;
+    let mut count = 1;
+    while count < width {
+        let step = count.min(width - count);
+        starts &= starts >> step;
+        count += step;
+    }
+    starts
 }
 
 /// The first column from `from` on at which so many columns are open.
 pub fn next_open(row: u128, from: u32, width: u32, columns: u32) -> Option<u32>
     requires columns { columns ≤ 100 }
     requires from { from ≤ columns }
-    requires width { width ≤ columns }
+    requires width { IsSpan width }
     ensures { MatchOption result
         ((c : ℕ) → from ≤ c → c + width ≤ columns → IsOpenFrom row c width → ⊥)
         (IsNextOpen row from width columns) }
 {
-    let mut column = from;
-    while column + width <= columns {
-        if is_open(row, column, width) {
-            return Some(column);
-        }
-        column += 1;
+    let starts = starts_of(row, width) >> from;
+    if starts == 0 {
+        return None;
     }
-    None
+    let column = from + starts.trailing_zeros();
+    if column + width <= columns {
+        Some(column)
+    } else {
+        None
+    }
 }
 
 /// The bits of a row, which has none past the last one.
