@@ -1,5 +1,5 @@
 -- What holds of every reaction.
-use Rattle.std.proofs.Common.{◌≡◌, ◌+◌, ◌-◌, ◌≤◌, ℕ, min, max, List, [], ◌∷◌, ◌++◌, length, filter, take, drop, cond, Bool, true, false, not, ◌||◌, if◌then◌else◌, refl, subst, arith, append_assoc, length-append, length-take, length-drop}
+use Rattle.std.proofs.Common.{◌≡◌, ◌+◌, ◌-◌, ◌≤◌, ℕ, min, max, List, [], ◌∷◌, ◌++◌, length, filter, take, drop, cond, Bool, true, false, not, ◌||◌, if◌then◌else◌, refl, subst, sym, arith, append_assoc, length-append, length-take, length-drop}
 use Rattle.std.proofs.lemmas.Bool.{and_parts, leb-true, le-leb}
 use Rattle.std.proofs.lemmas.Bool.Decides.{nat_tests}
 use Rattle.std.proofs.lemmas.List.{drop_at}
@@ -7,7 +7,7 @@ use Rattle.std.proofs.lemmas.List.Elements.{All-nil, All-cons}
 use Rattle.std.proofs.lemmas.Str.{IsCharBoundary-end}
 use Rattle.std.specs.List.{All}
 use Rattle.std.specs.Option.{option_map_or}
-use Rattle.std.specs.Prelude.{Option, Some, None, unwrap_or, find, nat_lt, nat_le, encode_utf8, ◌==◌}
+use Rattle.std.specs.Prelude.{IfOk, Result, Ok, Err, Option, Some, None, unwrap_or, find, nat_lt, nat_le, encode_utf8, ◌==◌}
 use Rattle.std.specs.Str.{IsUtf8}
 use Rattle.tx_cell.specs.Lines.{text_lines}
 use Rattle.tx_tree.specs.Kind.{fresh}
@@ -20,7 +20,7 @@ use Rattle.tx_tree.specs.declared.kind.Private.TheVariants as Is
 use Rattle.tx_widgets.specs.Drawing.{box_is_on, chosen_of, cursor_of}
 use Rattle.tx_widgets.specs.Editing.{cluster_edges, edge_after, edge_before, most_typed, with_character, without_part}
 use Rattle.tx_widgets.specs.Form.{begins_character, is_in_form, state_of}
-use Rattle.tx_widgets.specs.Reaction.{advanced, answered, bar_reaction, box_reaction, button_reaction, choosing, effect_of, field_reaction, kind_reaction, list_reaction, passed_on, reaction, screen_reaction, scroll_reaction}
+use Rattle.tx_widgets.specs.Reaction.{advanced, answered, bar_reaction, box_reaction, button_reaction, choosing, effect_of, field_reaction, kind_reaction, list_reaction, passed_on, reaction, screen_reaction, scroll_reaction, unbound_reaction}
 use Rattle.tx_widgets.specs.ReactionLaws.{IsModest, ReactionsAreModest}
 use Rattle.tx_widgets.specs.declared.reactions.held.Held.{Held}
 use Rattle.tx_widgets.specs.declared.reactions.held.Reaction.{Reaction}
@@ -236,6 +236,15 @@ bound-modest : (held : Held) (state : Private) (action : Option Action) (unbound
     → IsModest held.kind held.text (option_map_or (λ action. answered held.text state (effect_of action ∷ [])) action unbound)
 bound-modest held state None unbound form modest = modest
 bound-modest held state (Some action) unbound form modest = said held.kind held.text state _ (omega arith) form
+
+-- what is made of a row without an action
+pub unbound-ok : {E : Type 0} (result : Result Reaction E) (held : Held) (state : Private) (message : Message) → IsUtf8 held.text
+    → state ≡ state_of held.kind held.text held.private → IfOk result (λ made. made ≡ unbound_reaction held state message)
+    → IfOk result (λ made. IsModest held.kind held.text made)
+unbound-ok (Ok made) held state message utf8 is same =
+    let form : InForm held.kind held.text state = subst (InForm held.kind held.text) (sym is) (state-form held.kind held.text held.private) in
+    subst (IsModest held.kind held.text) (sym same) (unbound-modest held state message held.disabled utf8 form)
+unbound-ok (Err fault) held state message utf8 is same = same
 
 pub reactions-modest : ReactionsAreModest
 unfolding reaction

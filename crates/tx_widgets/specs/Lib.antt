@@ -10,3 +10,4 @@ pub mod Frame
 pub mod Editing
 pub mod Reaction
 pub mod ReactionLaws
+pub mod StackedFrame

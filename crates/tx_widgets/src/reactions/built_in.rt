@@ -3,6 +3,7 @@
 ghost use Rattle.std.specs.Prelude.{◌≡◌, ◌<◌, ◌^◌, true, false, length, IfOk, None, if◌then◌else◌};
 ghost use Rattle.tx_tree.specs.Kind.{is_handed};
 ghost use Rattle.tx_widgets.specs.Form.{suits};
+ghost use Rattle.tx_widgets.specs.ReactionLaws.{IsModest};
 ghost use Rattle.tx_widgets.specs.Reaction.{action_on, effect_of, kind_reaction, reaction, unbound_reaction};
 
 use crate::drawing::{box_is_on, chosen_of, cursor_of, state_of};
@@ -40,13 +41,14 @@ use tx_tree::{Action, Kind, Private};
 ///
 /// These messages stop. All others change nothing and go on. A private state that isn't of the
 /// kind's form or doesn't suit the text counts as the fresh one, which the row then has. The kind is
-/// not one that is handed in, and the text has fewer than 2^32 bytes. The one fault is want of
-/// memory.
+/// not one that is handed in, and the text has fewer than 2^32 bytes. The one fault is that there is
+/// no memory.
 #[tactic(auto, unfolding(crate::specs::Reaction::reaction))]
 pub fn react(alloc: Global, held: &Held, message: &Message) -> Result<Reaction, NoMemory>
     requires built_in { is_handed held.now.kind ≡ false }
     requires short { length held.now.text < 2 ^ 32 }
     ensures reaction { IfOk result (λ made. made ≡ reaction held.now message.now) }
+    ensures modest { IfOk result (λ made. IsModest held.now.kind held.now.text made) }
 {
     let private = state_of(&held.kind, held.text.as_str(), held.private);
     match action_on(held, *message) {

@@ -1,4 +1,4 @@
-//! What the kinds that take no keys of a text do with messages.
+//! What a Screen, a VerticalScroll, a Button, a Checkbox and a ProgressBar do with messages.
 
 ghost use Rattle.std.specs.Prelude.{◌≡◌, [], ◌∷◌, IfOk};
 ghost use Rattle.tx_widgets.specs.Reaction.{advanced, answered, bar_reaction, box_reaction, button_reaction, screen_reaction, scroll_reaction};
