@@ -1,4 +1,4 @@
--- The greatest is found by keeping the better of two.
+-- The greatest is found by keeping the greater of two.
 use Rattle.std.proofs.Common.{◌≡◌, ℕ, suc, ◌+◌, ◌<◌, ◌≤◌, ◌==◌, length, drop, get_or, add-one, nat_lt, Bool, true, false, not, ◌||◌, cond, List, [], ◌∷◌, map, filter, Option, Some, None, refl, sym, ap, ◌∙◌, arith, inl, inr}
 use Rattle.std.specs.List.{find, list_any, fold}
 use Rattle.std.proofs.lemmas.Bool.{cases_Bool, eq-eqb, false≢true}
@@ -7,14 +7,22 @@ use Rattle.std.specs.Prelude.{if◌then◌else◌}
 use Rattle.std.proofs.lemmas.List.{drop_all}
 use Rattle.std.proofs.Math.Seq.{drop-cons}
 use Rattle.tx_select.specs.SelectorValue.{SelectorValue}
-use Rattle.tx_cascade.specs.Key.{weight_parts, exceeds, is_greatest, greatest}
-use Rattle.tx_cascade.specs.Reaching.{Test, weight}
+use Rattle.tx_cascade.specs.Key.{weight_parts, exceeds, is_greatest, greatest, greater}
+use Rattle.tx_cascade.specs.Matchers.{Matcher}
+use Rattle.tx_cascade.specs.Reaching.{weight}
 use Rattle.tx_cascade.specs.declared.key.Weight.{Weight}
-use Rattle.tx_cascade.specs.Better.{better, better_where, weighed}
+
+-- the greatest so far, with one thing more where it counts
+abbrev pub greater_where : {A : Type 0} → (A → Bool) → (A → List ℕ) → Option A → A → Option A
+greater_where counts parts best a = if counts a then greater parts best a else best
+
+-- the most specific selector so far, with one more where it matches
+abbrev pub weighed : Matcher → Option Weight → SelectorValue → Option Weight
+weighed matcher best selector = if matcher selector.compounds then greater weight_parts best (weight selector) else best
 
 -- ---- the order
 
-itself : (xs : List ℕ) → exceeds xs xs ≡ false
+pub itself : (xs : List ℕ) → exceeds xs xs ≡ false
 itself [] = refl
 itself (x ∷ xs) = rw (eq-eqb x x refl) (itself xs)
 
@@ -107,34 +115,34 @@ module _ {A : Type 0} (parts : A → List ℕ) where
           let second : is_greatest parts (w ∷ ys) x ≡ false = over_second (above w x) (any-more (λ b. above b w) (λ b. above b x) ys other (any_over is)) in
           rw (is, second) refl
 
-  fold-better : (w : A) (xs : List A) → fold (better parts) (Some w) xs ≡ greatest parts (w ∷ xs)
-  fold-better w [] = rw (itself (parts w)) refl
-  fold-better w (x ∷ xs) = by (above x w) refl (fold-better x xs) (fold-better w xs)
+  fold-greater : (w : A) (xs : List A) → fold (greater parts) (Some w) xs ≡ greatest parts (w ∷ xs)
+  fold-greater w [] = rw (itself (parts w)) refl
+  fold-greater w (x ∷ xs) = by (above x w) refl (fold-greater x xs) (fold-greater w xs)
     where
-      by : (b : Bool) → above x w ≡ b → fold (better parts) (Some x) xs ≡ greatest parts (x ∷ xs) → fold (better parts) (Some w) xs ≡ greatest parts (w ∷ xs)
-          → fold (better parts) (if b then Some x else Some w) xs ≡ greatest parts (w ∷ x ∷ xs)
+      by : (b : Bool) → above x w ≡ b → fold (greater parts) (Some x) xs ≡ greatest parts (x ∷ xs) → fold (greater parts) (Some w) xs ≡ greatest parts (w ∷ xs)
+          → fold (greater parts) (if b then Some x else Some w) xs ≡ greatest parts (w ∷ x ∷ xs)
       by true over first second = first ∙ sym (without-first w x xs over)
       by false under first second = second ∙ sym (without-second w x xs under)
 
-  pub fold-greatest : (xs : List A) → fold (better parts) None xs ≡ greatest parts xs
+  pub fold-greatest : (xs : List A) → fold (greater parts) None xs ≡ greatest parts xs
   fold-greatest [] = refl
-  fold-greatest (x ∷ xs) = fold-better x xs
+  fold-greatest (x ∷ xs) = fold-greater x xs
 
   -- of those that count
-  pub fold-where : (counts : A → Bool) (best : Option A) (xs : List A) → fold (better_where counts parts) best xs ≡ fold (better parts) best (filter counts xs)
+  pub fold-where : (counts : A → Bool) (best : Option A) (xs : List A) → fold (greater_where counts parts) best xs ≡ fold (greater parts) best (filter counts xs)
   fold-where counts best [] = refl
   fold-where counts best (x ∷ xs) = elim (cases_Bool (counts x)) [
-    | inl is ↦ rw is (fold-where counts (better parts best x) xs)
+    | inl is ↦ rw is (fold-where counts (greater parts best x) xs)
     | inr not_so ↦ rw not_so (fold-where counts best xs)
   ]
 
 -- of those selectors that match
-pub fold-weighed : (test : Test) (best : Option Weight) (xs : List SelectorValue)
-    → fold (weighed test) best xs ≡ fold (better weight_parts) best (map weight (filter (λ selector. test selector.compounds) xs))
-fold-weighed test best [] = refl
-fold-weighed test best (x ∷ xs) = elim (cases_Bool (test x.compounds)) [
-  | inl is ↦ rw is (fold-weighed test (better weight_parts best (weight x)) xs)
-  | inr not_so ↦ rw not_so (fold-weighed test best xs)
+pub fold-weighed : (matcher : Matcher) (best : Option Weight) (xs : List SelectorValue)
+    → fold (weighed matcher) best xs ≡ fold (greater weight_parts) best (map weight (filter (λ selector. matcher selector.compounds) xs))
+fold-weighed matcher best [] = refl
+fold-weighed matcher best (x ∷ xs) = elim (cases_Bool (matcher x.compounds)) [
+  | inl is ↦ rw is (fold-weighed matcher (greater weight_parts best (weight x)) xs)
+  | inr not_so ↦ rw not_so (fold-weighed matcher best xs)
 ]
 
 -- ---- loops
@@ -156,8 +164,8 @@ fold-at {A} f xs i d old new all within next so_far =
 pub fold-end : {A B : Type 0} (f : B → A → B) (xs : List A) (i : ℕ) (last all : B) → length xs ≤ i → fold f last (drop i xs) ≡ all → last ≡ all
 fold-end f xs i last all over so_far = sym (ap (fold f last) (drop_all i xs over)) ∙ so_far
 
-pub weighed-match : (test : Test) (best : Option Weight) (s : SelectorValue) → test s.compounds ≡ true → weighed test best s ≡ better weight_parts best (weight s)
-weighed-match test best s is = rw is refl
+pub weighed-match : (matcher : Matcher) (best : Option Weight) (s : SelectorValue) → matcher s.compounds ≡ true → weighed matcher best s ≡ greater weight_parts best (weight s)
+weighed-match matcher best s is = rw is refl
 
-pub weighed-other : (test : Test) (best : Option Weight) (s : SelectorValue) → test s.compounds ≡ false → weighed test best s ≡ best
-weighed-other test best s is = rw is refl
+pub weighed-other : (matcher : Matcher) (best : Option Weight) (s : SelectorValue) → matcher s.compounds ≡ false → weighed matcher best s ≡ best
+weighed-other matcher best s is = rw is refl

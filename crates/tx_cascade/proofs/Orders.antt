@@ -10,11 +10,11 @@ use Rattle.tx_cascade.specs.declared.key.Origin.TheVariants.{Default, Sheet, Inl
 use Rattle.tx_cascade.specs.declared.key.Weight.{Weight}
 
 -- a greater first part decides
-first-decides : (x y : ℕ) (xs ys : List ℕ) → y < x → exceeds (x ∷ xs) (y ∷ ys) ≡ true
+pub first-decides : (x y : ℕ) (xs ys : List ℕ) → y < x → exceeds (x ∷ xs) (y ∷ ys) ≡ true
 first-decides x y xs ys less = let other : (x == y) ≡ false = grind (arith, nat_tests) in rw (other, lt-ltb y x less) refl
 
 -- equal ones leave it to the rest
-rest-decides : (x y : ℕ) (xs ys : List ℕ) → x ≡ y → exceeds xs ys ≡ true → exceeds (x ∷ xs) (y ∷ ys) ≡ true
+pub rest-decides : (x y : ℕ) (xs ys : List ℕ) → x ≡ y → exceeds xs ys ≡ true → exceeds (x ∷ xs) (y ∷ ys) ≡ true
 rest-decides x y xs ys same rest = rw (eq-eqb x y same) rest
 
 -- the parts of a key behind its first ones

@@ -9,9 +9,9 @@ use Rattle.tx_parse.specs.Values.{SheetValue}
 use Rattle.tx_value.specs.declared.value.Value.{Value}
 use Rattle.tx_select.specs.declared.value.Pseudo.{Pseudo as State}
 use Rattle.tx_cascade.specs.Cascade.{style_below, styled, up_from, IsStyleOf}
-use Rattle.tx_cascade.specs.Reaching.{Test, reaching}
-use Rattle.tx_cascade.specs.Tests.{tests_of}
-use Rattle.tx_cascade.proofs.Matching.{tests-agree}
+use Rattle.tx_cascade.specs.Matchers.{Matcher, matchers_of}
+use Rattle.tx_cascade.specs.Reaching.{reaching}
+use Rattle.tx_cascade.proofs.Matching.{matchers-agree}
 use Rattle.tx_cascade.proofs.Parents.{the-row, no-row, parent-at, up-row, up-top}
 
 module _ (rows : List Row) (once : (n : ℕ) → count_of n rows ≤ 1) where
@@ -33,13 +33,13 @@ module _ (rows : List Row) (once : (n : ℕ) → count_of n rows ≤ 1) where
   up-alone n row there is = up-top rows n row there (no-row (parent_of n rows) is)
 
   -- a row's style, where its parent's is known
-  pub styled-below : (tests : ℕ → Test) (sheet : SheetValue) (n : ℕ) (row : Row) (up : List Row) (above style : List Value) → row_at n rows ≡ Some row → up_from rows n ≡ row ∷ up → above ≡ styled tests sheet up
-      → style ≡ style_below above (reaching (tests (number row)) sheet row.inline) → style ≡ styled tests sheet (up_from rows n)
-  styled-below tests sheet n row up above style there path known is =
-      is ∙ (ap (λ (a : List Value). style_below a (reaching (tests (number row)) sheet row.inline)) known ∙ sym (ap (styled tests sheet) path))
+  pub styled-below : (matchers : ℕ → Matcher) (sheet : SheetValue) (n : ℕ) (row : Row) (up : List Row) (above style : List Value) → row_at n rows ≡ Some row → up_from rows n ≡ row ∷ up → above ≡ styled matchers sheet up
+      → style ≡ style_below above (reaching (matchers (number row)) sheet row.inline) → style ≡ styled matchers sheet (up_from rows n)
+  styled-below matchers sheet n row up above style there path known is =
+      is ∙ (ap (λ (a : List Value). style_below a (reaching (matchers (number row)) sheet row.inline)) known ∙ sym (ap (styled matchers sheet) path))
 
   -- the style that is so found is the style of the row
-  pub is-style : (state : State) (sheet : SheetValue) (n : ℕ) (style : List Value) → is_some (row_at n rows) ≡ true → style ≡ styled (tests_of state rows) sheet (up_from rows n)
+  pub is-style : (state : State) (sheet : SheetValue) (n : ℕ) (style : List Value) → is_some (row_at n rows) ≡ true → style ≡ styled (matchers_of state rows) sheet (up_from rows n)
       → IsStyleOf sheet state rows n style
   is-style state sheet n style there is = by (row_at n rows) refl there
     where
@@ -48,21 +48,21 @@ module _ (rows : List Row) (once : (n : ℕ) → count_of n rows ≤ 1) where
       by (Some row) at some = record {
         row = row;
         there = at;
-        tests = tests_of state rows;
-        agree = tests-agree rows once state;
-        is = is ∙ ap (λ (o : Option Row). styled (tests_of state rows) sheet (option_map_or (λ r. r ∷ ancestors_of n rows) o [])) at;
+        matchers = matchers_of state rows;
+        agree = matchers-agree rows once state;
+        is = is ∙ ap (λ (o : Option Row). styled (matchers_of state rows) sheet (option_map_or (λ r. r ∷ ancestors_of n rows) o [])) at;
       }
 
   pub all-styles : {E : Type 0} (state : State) (sheet : SheetValue) (n : ℕ) → is_some (row_at n rows) ≡ true → (result : Result (List Value) E)
-      → IfOk result (λ style. style ≡ styled (tests_of state rows) sheet (up_from rows n)) → IfOk result (λ style. IsStyleOf sheet state rows n style)
+      → IfOk result (λ style. style ≡ styled (matchers_of state rows) sheet (up_from rows n)) → IfOk result (λ style. IsStyleOf sheet state rows n style)
   all-styles state sheet n there (Ok style) is = is-style state sheet n style there is
   all-styles state sheet n there (Err fault) is = tt
 
   -- the same of an answer
-  pub answer-below : {E : Type 0} (tests : ℕ → Test) (sheet : SheetValue) (n : ℕ) (row : Row) (up : List Row) (above : List Value) → row_at n rows ≡ Some row → up_from rows n ≡ row ∷ up → above ≡ styled tests sheet up
-      → (result : Result (List Value) E) → IfOk result (λ style. style ≡ style_below above (reaching (tests (number row)) sheet row.inline)) → IfOk result (λ style. style ≡ styled tests sheet (up_from rows n))
-  answer-below tests sheet n row up above there path known (Ok style) is = styled-below tests sheet n row up above style there path known is
-  answer-below tests sheet n row up above there path known (Err fault) is = tt
+  pub answer-below : {E : Type 0} (matchers : ℕ → Matcher) (sheet : SheetValue) (n : ℕ) (row : Row) (up : List Row) (above : List Value) → row_at n rows ≡ Some row → up_from rows n ≡ row ∷ up → above ≡ styled matchers sheet up
+      → (result : Result (List Value) E) → IfOk result (λ style. style ≡ style_below above (reaching (matchers (number row)) sheet row.inline)) → IfOk result (λ style. style ≡ styled matchers sheet (up_from rows n))
+  answer-below matchers sheet n row up above there path known (Ok style) is = styled-below matchers sheet n row up above style there path known is
+  answer-below matchers sheet n row up above there path known (Err fault) is = tt
 
 -- tests at the rows above, and at one row more
 pub tested-up : (each : ℕ) (above : List Row) (row : Row) (path : List Row) → path ≡ row ∷ above → each * length above + each ≤ each * length path

@@ -13,7 +13,8 @@ use Rattle.tx_parse.specs.Values.{DeclarationValue, RuleValue, SheetValue}
 use Rattle.tx_parse.specs.declared.fault.SheetFault.{SheetFault}
 use Rattle.tx_parse.specs.declared.fault.SheetFault.TheVariants.{Text}
 use Rattle.tx_parse.specs.declared.fault.SheetKind.{SheetKind}
-use Rattle.tx_cascade.specs.Reaching.{Test, selectors_of, no_weight, all_reached, of_rules, declared_in, inline_declarations, reaching}
+use Rattle.tx_cascade.specs.Matchers.{Matcher}
+use Rattle.tx_cascade.specs.Reaching.{selectors_of, no_weight, all_reached, of_rules, declared_in, inline_declarations, reaching}
 use Rattle.tx_cascade.specs.declared.key.Origin.TheVariants.{Default, Sheet, Inline}
 use Rattle.tx_cascade.specs.declared.reaching.Reached.{Reached}
 
@@ -38,7 +39,7 @@ rules-step f rules i rule old new all within is next so_far =
 
 pub long-text : (text : List ℕ) → 4294967296 ≤ length text → inline_declarations text ≡ []
 unfolding inline_declarations
-long-text text long = let test : nat_lt (length text) 4294967296 ≡ false = grind (arith, nat_tests) in rw test refl
+long-text text long = let matcher : nat_lt (length text) 4294967296 ≡ false = grind (arith, nat_tests) in rw matcher refl
 
 pub short-text : (text : List ℕ) → length text < 4294967296 → inline_declarations text ≡ declared_in (inline_of text)
 unfolding inline_declarations
@@ -62,14 +63,14 @@ faulty-text text read fault line column kind is gives =
 
 -- ---- all
 
-pub all-reaching : (test : Test) (sheet : SheetValue) (inline text : List ℕ) (defaults rules : List RuleValue) (none first second all : List Reached)
-    → defaults ≡ sheet.defaults → rules ≡ sheet.rules → text ≡ inline → none ≡ [] → first ≡ none ++ of_rules test Default defaults → second ≡ first ++ of_rules test Sheet rules
-    → all ≡ second ++ all_reached Inline no_weight 0 (inline_declarations text) → all ≡ reaching test sheet inline
+pub all-reaching : (matcher : Matcher) (sheet : SheetValue) (inline text : List ℕ) (defaults rules : List RuleValue) (none first second all : List Reached)
+    → defaults ≡ sheet.defaults → rules ≡ sheet.rules → text ≡ inline → none ≡ [] → first ≡ none ++ of_rules matcher Default defaults → second ≡ first ++ of_rules matcher Sheet rules
+    → all ≡ second ++ all_reached Inline no_weight 0 (inline_declarations text) → all ≡ reaching matcher sheet inline
 unfolding reaching
-all-reaching test sheet inline text defaults rules none first second all d r t n f s a =
-    let own : second ≡ of_rules test Default sheet.defaults ++ of_rules test Sheet sheet.rules =
-    s ∙ (ap (λ (l : List Reached). l ++ of_rules test Sheet rules) (f ∙ ap (λ (l : List Reached). l ++ of_rules test Default defaults) n)
-    ∙ (ap (λ (rs : List RuleValue). of_rules test Default rs ++ of_rules test Sheet rules) d ∙ ap (λ (rs : List RuleValue). of_rules test Default sheet.defaults ++ of_rules test Sheet rs) r)) in
+all-reaching matcher sheet inline text defaults rules none first second all d r t n f s a =
+    let own : second ≡ of_rules matcher Default sheet.defaults ++ of_rules matcher Sheet sheet.rules =
+    s ∙ (ap (λ (l : List Reached). l ++ of_rules matcher Sheet rules) (f ∙ ap (λ (l : List Reached). l ++ of_rules matcher Default defaults) n)
+    ∙ (ap (λ (rs : List RuleValue). of_rules matcher Default rs ++ of_rules matcher Sheet rules) d ∙ ap (λ (rs : List RuleValue). of_rules matcher Default sheet.defaults ++ of_rules matcher Sheet rs) r)) in
     a ∙ (ap (λ (l : List Reached). l ++ all_reached Inline no_weight 0 (inline_declarations text)) own
-    ∙ (append_assoc (of_rules test Default sheet.defaults) (of_rules test Sheet sheet.rules) (all_reached Inline no_weight 0 (inline_declarations text))
-    ∙ ap (λ (t : List ℕ). of_rules test Default sheet.defaults ++ (of_rules test Sheet sheet.rules ++ all_reached Inline no_weight 0 (inline_declarations t))) t))
+    ∙ (append_assoc (of_rules matcher Default sheet.defaults) (of_rules matcher Sheet sheet.rules) (all_reached Inline no_weight 0 (inline_declarations text))
+    ∙ ap (λ (t : List ℕ). of_rules matcher Default sheet.defaults ++ (of_rules matcher Sheet sheet.rules ++ all_reached Inline no_weight 0 (inline_declarations t))) t))

@@ -14,8 +14,8 @@ use Rattle.tx_value.specs.declared.value.Value.{Value}
 use Rattle.tx_select.specs.Match.{IsAmong}
 use Rattle.tx_select.specs.declared.value.Pseudo.{Pseudo as State}
 use Rattle.tx_cascade.specs.Cascade.{styled, up_from, IsStyleOf}
-use Rattle.tx_cascade.specs.Styles.{styles_within, all_styles, HoldsAbove}
-use Rattle.tx_cascade.specs.Tests.{tests_of}
+use Rattle.tx_cascade.specs.Styles.{styles_within, all_styles, ParentIsStyled, StandsAt, ArePlaced}
+use Rattle.tx_cascade.specs.Matchers.{matchers_of}
 use Rattle.tx_cascade.proofs.Paths.{is-style}
 use Rattle.tx_cascade.proofs.Parents.{the-row, parent-before, parent-at, row-among}
 
@@ -58,7 +58,7 @@ at-other n (first ∷ done) row other = elim (cases_Bool (has_number n first)) [
 module _ (rows : List Row) (once : (n : ℕ) → count_of n rows ≤ 1) (sheet : SheetValue) (state : State) where
   -- the style of a row's parent was worked out before
   pub above-held : (done rest : List Row) (row : Row) (held : ℕ → Option (List Value)) → done ++ (row ∷ rest) ≡ rows → ((n : ℕ) → held n ≡ styles_within sheet state rows done n)
-      → HoldsAbove sheet state rows (number row) held
+      → ParentIsStyled sheet state rows (number row) held
   above-held done rest row held whole so_far parent is =
       let found = the-row (parent_of (number row) rows) parent is in
       let none : count_of (number row) done ≡ 0 = none-before rows once done rest row whole in
@@ -68,14 +68,14 @@ module _ (rows : List Row) (once : (n : ℕ) → count_of n rows ≤ 1) (sheet :
       let at : row_at (number found.0) done ≡ Some found.0 = row-among done found.0 few among in
       let path : up_from rows (number found.0) ≡ found.0 ∷ ancestors_of (number found.0) rows =
       ap (λ (o : Option Row). option_map_or (λ r. r ∷ ancestors_of (number found.0) rows) o []) (parent-at rows once (number row) found.0 found.1) in
-      subst (λ (p : NodeId). held p.0 ≡ Some (styled (tests_of state rows) sheet (up_from rows p.0))) found.2
+      subst (λ (p : NodeId). held p.0 ≡ Some (styled (matchers_of state rows) sheet (up_from rows p.0))) found.2
       (so_far (number found.0)
-      ∙ (ap (λ (o : Option Row). option_map (λ r. styled (tests_of state rows) sheet (r ∷ ancestors_of (number found.0) rows)) o) at
-      ∙ ap (λ (rs : List Row). Some (styled (tests_of state rows) sheet rs)) (sym path)))
+      ∙ (ap (λ (o : Option Row). option_map (λ r. styled (matchers_of state rows) sheet (r ∷ ancestors_of (number found.0) rows)) o) at
+      ∙ ap (λ (rs : List Row). Some (styled (matchers_of state rows) sheet rs)) (sym path)))
 
   -- one row more has its style
   pub next-held : (done rest : List Row) (row : Row) (style : List Value) (held next : ℕ → Option (List Value)) → done ++ (row ∷ rest) ≡ rows → ((n : ℕ) → held n ≡ styles_within sheet state rows done n)
-      → style ≡ styled (tests_of state rows) sheet (up_from rows (number row)) → next ≡ with_at held (number row) (Some style) → (n : ℕ) → next n ≡ styles_within sheet state rows (done ++ (row ∷ [])) n
+      → style ≡ styled (matchers_of state rows) sheet (up_from rows (number row)) → next ≡ with_at held (number row) (Some style) → (n : ℕ) → next n ≡ styles_within sheet state rows (done ++ (row ∷ [])) n
   next-held done rest row style held next whole so_far is put n = ap (λ (f : ℕ → Option (List Value)). f n) put ∙ by (n == number row) refl
     where
       none : count_of (number row) done ≡ 0
@@ -84,8 +84,8 @@ module _ (rows : List Row) (once : (n : ℕ) → count_of n rows ≤ 1) (sheet :
       own : Some style ≡ styles_within sheet state rows (done ++ (row ∷ [])) (number row)
       own =
           ap (λ (s : List Value). Some s) is
-          ∙ (ap (λ (o : Option Row). Some (styled (tests_of state rows) sheet (option_map_or (λ r. r ∷ ancestors_of (number row) rows) o []))) (found-row rows once done rest row whole)
-          ∙ sym (ap (λ (o : Option Row). option_map (λ r. styled (tests_of state rows) sheet (r ∷ ancestors_of (number row) rows)) o) (at-new done row none)))
+          ∙ (ap (λ (o : Option Row). Some (styled (matchers_of state rows) sheet (option_map_or (λ r. r ∷ ancestors_of (number row) rows) o []))) (found-row rows once done rest row whole)
+          ∙ sym (ap (λ (o : Option Row). option_map (λ r. styled (matchers_of state rows) sheet (r ∷ ancestors_of (number row) rows)) o) (at-new done row none)))
 
       by : (b : Bool) → (n == number row) ≡ b → with_at held (number row) (Some style) n ≡ styles_within sheet state rows (done ++ (row ∷ [])) n
       by true same =
@@ -96,31 +96,40 @@ module _ (rows : List Row) (once : (n : ℕ) → count_of n rows ≤ 1) (sheet :
             | inl same ↦ absurd (false≢true (sym other ∙ eq-eqb n (number row) (sym (eqb-true (number row) n same))))
             | inr differs ↦ differs
           ] in
-          rw other (so_far n ∙ sym (ap (λ (o : Option Row). option_map (λ r. styled (tests_of state rows) sheet (r ∷ ancestors_of n rows)) o) (at-other n done row turned)))
+          rw other (so_far n ∙ sym (ap (λ (o : Option Row). option_map (λ r. styled (matchers_of state rows) sheet (r ∷ ancestors_of n rows)) o) (at-other n done row turned)))
 
   -- at last all have
-  pub all-held : (done : List Row) (held : ℕ → Option (List Value)) → done ++ [] ≡ rows → ((n : ℕ) → held n ≡ styles_within sheet state rows done n) → held ≡ all_styles sheet state rows
+  pub all-held : (done : List Row) → done ++ [] ≡ rows → styles_within sheet state rows done ≡ all_styles sheet state rows
   unfolding all_styles
-  all-held done held whole so_far =
-      λ i n. (so_far n ∙ ap (λ (rs : List Row). styles_within sheet state rows rs n) (sym (append-nil done) ∙ whole)) i
+  all-held done whole = λ i n. ap (λ (rs : List Row). styles_within sheet state rows rs n) (sym (append-nil done) ∙ whole) i
+
+  pub placed-next : (done rest : List Row) (row : Row) (style : List Value) (made : List (List Value)) (places : ℕ → Option ℕ) → done ++ (row ∷ rest) ≡ rows
+      → style ≡ styled (matchers_of state rows) sheet (up_from rows (number row)) → ArePlaced made places (with_at (styles_within sheet state rows done) (number row) (Some style))
+      → ArePlaced made places (styles_within sheet state rows (done ++ (row ∷ [])))
+  placed-next done rest row style made places whole is placed n =
+      subst (λ (o : Option (List Value)). StandsAt made (places n) o)
+      (next-held done rest row style (styles_within sheet state rows done) (with_at (styles_within sheet state rows done) (number row) (Some style)) whole (λ m. refl) is refl n) (placed n)
+
+  pub all-placed : (done : List Row) (made : List (List Value)) (places : ℕ → Option ℕ) → done ++ [] ≡ rows → ArePlaced made places (styles_within sheet state rows done) → ArePlaced made places (all_styles sheet state rows)
+  all-placed done made places whole placed = subst (λ (f : ℕ → Option (List Value)). ArePlaced made places f) (all-held done whole) placed
 
   -- what is held is what is answered
   of-none : {A B : Type 0} (f : A → B) (o : Option A) → None ≡ option_map f o → o ≡ None
   of-none f None is = refl
   of-none f (Some a) is = let clash : None ≡ Some (f a) = is in cc
 
-  at-row : (n : ℕ) (style : List Value) (o : Option Row) → row_at n rows ≡ o → Some style ≡ option_map (λ row. styled (tests_of state rows) sheet (row ∷ ancestors_of n rows)) o → IsStyleOf sheet state rows n style
+  at-row : (n : ℕ) (style : List Value) (o : Option Row) → row_at n rows ≡ o → Some style ≡ option_map (λ row. styled (matchers_of state rows) sheet (row ∷ ancestors_of n rows)) o → IsStyleOf sheet state rows n style
   at-row n style None at is = let clash : Some style ≡ None = is in cc
   at-row n style (Some row) at is =
-      let same : style ≡ styled (tests_of state rows) sheet (row ∷ ancestors_of n rows) = some-same style (styled (tests_of state rows) sheet (row ∷ ancestors_of n rows)) is in
+      let same : style ≡ styled (matchers_of state rows) sheet (row ∷ ancestors_of n rows) = some-same style (styled (matchers_of state rows) sheet (row ∷ ancestors_of n rows)) is in
       is-style rows once state sheet n style (ap (λ (o : Option Row). is_some o) at)
-      (same ∙ sym (ap (λ (o : Option Row). styled (tests_of state rows) sheet (option_map_or (λ r. r ∷ ancestors_of n rows) o [])) at))
+      (same ∙ sym (ap (λ (o : Option Row). styled (matchers_of state rows) sheet (option_map_or (λ r. r ∷ ancestors_of n rows) o [])) at))
 
-  pub shown : (n : ℕ) (held : ℕ → Option (List Value)) (result : Option (Bor (List Value))) → option_copied result ≡ held n → held ≡ all_styles sheet state rows
+  pub shown : (n : ℕ) (result : Option (Bor (List Value))) → option_copied result ≡ all_styles sheet state rows n
       → MatchOption result (row_at n rows ≡ None) (λ style. IsStyleOf sheet state rows n style.now)
   unfolding all_styles
-  shown n held None is all = of-none (λ row. styled (tests_of state rows) sheet (row ∷ ancestors_of n rows)) (row_at n rows) (is ∙ ap (λ (f : ℕ → Option (List Value)). f n) all)
-  shown n held (Some style) is all = at-row n style.now (row_at n rows) refl (is ∙ ap (λ (f : ℕ → Option (List Value)). f n) all)
+  shown n None is = of-none (λ row. styled (matchers_of state rows) sheet (row ∷ ancestors_of n rows)) (row_at n rows) is
+  shown n (Some style) is = at-row n style.now (row_at n rows) refl is
 
 -- tests at one row more of the tree
 pub tested-row : (each : ℕ) (done rest : List Row) (row : Row) (rows : List Row) → done ++ (row ∷ rest) ≡ rows → each * length done + each ≤ each * length rows

@@ -15,12 +15,11 @@ use Rattle.tx_value.specs.declared.inheritance.Inheritance.TheVariants.{NotInher
 use Rattle.tx_value.specs.declared.property.Property.{Property}
 use Rattle.tx_value.specs.declared.value.Value.{Value}
 use Rattle.tx_value.specs.declared.value.Value.TheVariants.{Initial, Marks}
-use Rattle.tx_select.specs.Match.{IsMatch}
-use Rattle.tx_select.specs.declared.value.Compound.{Compound}
 use Rattle.tx_select.specs.declared.value.Pseudo.{Pseudo as State}
 use Rattle.tx_parse.specs.Values.{SheetValue}
 use Rattle.tx_cascade.specs.Key.{key_parts, greatest}
-use Rattle.tx_cascade.specs.Reaching.{Test, reaching}
+use Rattle.tx_cascade.specs.Matchers.{Matcher, AreMatchers}
+use Rattle.tx_cascade.specs.Reaching.{reaching}
 use Rattle.tx_cascade.specs.declared.key.Origin.{Origin}
 use Rattle.tx_cascade.specs.declared.key.Origin.TheVariants.{Default, Sheet, Inline}
 use Rattle.tx_cascade.specs.declared.reaching.Reached.{Reached}
@@ -91,24 +90,19 @@ style_below above all = map (value_below above all) every_property
 -- ---- rows
 
 -- The style of a row, which stands first with its ancestors behind it: each has its parent's style above it, and the Screen has
--- the initial values there. The tests tell which selectors match the row with a number.
-abbrev pub styled : (ℕ → Test) → SheetValue → List Row → List Value
-styled tests sheet [] = initial_style
-styled tests sheet (row ∷ above) = style_below (styled tests sheet above) (reaching (tests (number_of row)) sheet row.inline)
+-- the initial values there. The matchers tell which selectors match the row with a number.
+abbrev pub styled : (ℕ → Matcher) → SheetValue → List Row → List Value
+styled matchers sheet [] = initial_style
+styled matchers sheet (row ∷ above) = style_below (styled matchers sheet above) (reaching (matchers (number_of row)) sheet row.inline)
 
 -- the row with a number and its ancestors
 abbrev pub up_from : List Row → ℕ → List Row
 up_from rows n = option_map_or (λ row. row ∷ ancestors_of n rows) (row_at n rows) []
 
--- these tests tell for each row which selectors match it
-pub record AreTests (state : State) (rows : List Row) (tests : ℕ → Test) : Type 0 where
-  pub sound : (n : ℕ) (compounds : List Compound) → tests n compounds ≡ true → IsMatch state rows n compounds
-  pub whole : (n : ℕ) (compounds : List Compound) → IsMatch state rows n compounds → tests n compounds ≡ true
-
 -- this is the style of the row with a number, which is there
 pub record IsStyleOf (sheet : SheetValue) (state : State) (rows : List Row) (n : ℕ) (style : List Value) : Type 0 where
   pub row : Row
   pub there : row_at n rows ≡ Some row
-  pub tests : ℕ → Test
-  pub agree : AreTests state rows tests
-  pub is : style ≡ styled tests sheet (row ∷ ancestors_of n rows)
+  pub matchers : ℕ → Matcher
+  pub agree : AreMatchers state rows matchers
+  pub is : style ≡ styled matchers sheet (row ∷ ancestors_of n rows)

@@ -1,5 +1,5 @@
 -- The order of declarations: by the parts of their keys.
-use Rattle.std.specs.Prelude.{ℕ, ◌==◌, nat_lt, Bool, true, false, not, List, [], ◌∷◌, Option, if◌then◌else◌}
+use Rattle.std.specs.Prelude.{ℕ, ◌==◌, nat_lt, Bool, true, false, not, List, [], ◌∷◌, Option, Some, None, if◌then◌else◌}
 use Rattle.std.specs.List.{find, list_any}
 use Rattle.tx_cascade.specs.declared.key.Key.{Key}
 use Rattle.tx_cascade.specs.declared.key.Origin.{Origin}
@@ -45,3 +45,8 @@ is_greatest parts all a = not (list_any (λ b. exceeds (parts b) (parts a)) all)
 -- the greatest of some things, if there are any: the first that none of them exceeds
 abbrev pub greatest : {A : Type 0} → (A → List ℕ) → List A → Option A
 greatest parts all = find (is_greatest parts all) all
+
+-- of the greatest of some things, if there is one, and of one thing more the greater: the first of equal ones
+abbrev pub greater : {A : Type 0} → (A → List ℕ) → Option A → A → Option A
+greater parts None a = Some a
+greater parts (Some held) a = if exceeds (parts a) (parts held) then Some a else Some held

@@ -1,9 +1,10 @@
-pub mod Better
 pub mod Cascade
+pub mod EditLaws
 pub mod Edits
 pub mod Key
 pub mod Laws
+pub mod Matchers
 pub mod Reaching
+pub mod SheetOrder
 pub mod Styles
 pub mod Tested
-pub mod Tests

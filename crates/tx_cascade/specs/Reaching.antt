@@ -1,22 +1,18 @@
 -- The declarations that reach a row.
-use Rattle.std.specs.Prelude.{ℕ, ◌+◌, ◌^◌, nat_lt, Bool, List, [], ◌++◌, length, map, filter, flat_map, Option, Result, Ok, Err, if◌then◌else◌}
+use Rattle.std.specs.Prelude.{ℕ, ◌+◌, ◌^◌, nat_lt, List, [], ◌++◌, length, map, filter, flat_map, Option, Result, Ok, Err, if◌then◌else◌}
 use Rattle.std.specs.List.{enumerate_from, sum_by}
 use Rattle.std.specs.Option.{option_map_or}
 use Rattle.tx_select.specs.SelectorValue.{SelectorValue}
 use Rattle.tx_select.specs.Specificity.{ids, classes, types}
-use Rattle.tx_select.specs.declared.value.Compound.{Compound}
 use Rattle.tx_parse.specs.Grammar.{Body}
 use Rattle.tx_parse.specs.Texts.{Report, inline_of}
 use Rattle.tx_parse.specs.Values.{DeclarationValue, RuleValue, SheetValue}
 use Rattle.tx_cascade.specs.Key.{weight_parts, greatest}
+use Rattle.tx_cascade.specs.Matchers.{Matcher}
 use Rattle.tx_cascade.specs.declared.key.Origin.{Origin}
 use Rattle.tx_cascade.specs.declared.key.Origin.TheVariants.{Default, Sheet, Inline}
 use Rattle.tx_cascade.specs.declared.key.Weight.{Weight}
 use Rattle.tx_cascade.specs.declared.reaching.Reached.{Reached}
-
--- which selectors match a row, by their compounds
-abbrev pub Test : Type 0
-Test = List Compound → Bool
 
 -- ---- rules
 
@@ -25,8 +21,8 @@ abbrev pub weight : SelectorValue → Weight
 weight selector = record { ids = ids selector.compounds; classes = classes selector.compounds; types = types selector.compounds }
 
 -- How specific a rule is at a row: as its most specific selector among those that match there.
-abbrev pub weight_at : Test → List SelectorValue → Option Weight
-weight_at test selectors = greatest weight_parts (map weight (filter (λ selector. test selector.compounds) selectors))
+abbrev pub weight_at : Matcher → List SelectorValue → Option Weight
+weight_at matcher selectors = greatest weight_parts (map weight (filter (λ selector. matcher selector.compounds) selectors))
 
 -- a declaration with its key, of a rule that is so specific and has this number
 abbrev pub reached : Origin → Weight → ℕ → ℕ × DeclarationValue → Reached
@@ -41,12 +37,12 @@ abbrev pub all_reached : Origin → Weight → ℕ → List DeclarationValue →
 all_reached origin weight rule declarations = map (reached origin weight rule) (enumerate_from 0 declarations)
 
 -- those of a rule with its number: all where one of its selectors matches, else none
-abbrev pub of_rule : Test → Origin → ℕ × RuleValue → List Reached
-of_rule test origin rule = option_map_or (λ weight. all_reached origin weight rule.0 rule.1.declarations) (weight_at test rule.1.selectors) []
+abbrev pub of_rule : Matcher → Origin → ℕ × RuleValue → List Reached
+of_rule matcher origin rule = option_map_or (λ weight. all_reached origin weight rule.0 rule.1.declarations) (weight_at matcher rule.1.selectors) []
 
 -- those of all rules, numbered from 0
-unfoldable pub of_rules : Test → Origin → List RuleValue → List Reached
-of_rules test origin rules = flat_map (of_rule test origin) (enumerate_from 0 rules)
+unfoldable pub of_rules : Matcher → Origin → List RuleValue → List Reached
+of_rules matcher origin rules = flat_map (of_rule matcher origin) (enumerate_from 0 rules)
 
 -- ---- inline texts
 
@@ -65,11 +61,11 @@ inline_declarations text = if nat_lt (length text) (2 ^ 32) then declared_in (in
 
 -- ---- all
 
--- all declarations that reach a row with this inline text, where its test tells which selectors match it
-unfoldable pub reaching : Test → SheetValue → List ℕ → List Reached
-reaching test sheet inline =
-    of_rules test Default sheet.defaults
-    ++ (of_rules test Sheet sheet.rules ++ all_reached Inline no_weight 0 (inline_declarations inline))
+-- all declarations that reach a row with this inline text, where its matcher tells which selectors match it
+unfoldable pub reaching : Matcher → SheetValue → List ℕ → List Reached
+reaching matcher sheet inline =
+    of_rules matcher Default sheet.defaults
+    ++ (of_rules matcher Sheet sheet.rules ++ all_reached Inline no_weight 0 (inline_declarations inline))
 
 -- how many selectors rules have
 abbrev pub selectors_of : List RuleValue → ℕ

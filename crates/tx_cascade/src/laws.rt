@@ -1,5 +1,9 @@
 //! What holds of the definitions.
-ghost use Rattle.tx_cascade.specs.Laws.{ImportantWins, SpecificWins, LaterWins, NearerWins, AtMostOneGreatest};
+ghost use Rattle.tx_cascade.specs.EditLaws.{NoEditLeads, EachEditLeads, EditsLeadOn};
+ghost use Rattle.tx_cascade.specs.Laws.{ImportantWins, SpecificWins, LaterWins, NearerWins, AtMostOneGreatest, MatchersAgree, OneStyle, StylesAreThose, WinnersCount};
+ghost use Rattle.tx_cascade.specs.SheetOrder.{SheetReachesRows, SheetsAreOrdered};
+
+use tx_value::laws::styles_are_values;
 
 /// An important declaration beats every one that isn't.
 pub fn important_wins()
@@ -13,8 +17,8 @@ pub fn specific_wins()
     ensures later { LaterWins }
 {}
 
-/// Among declarations that are equally important a row's own beats one of the sheet, and one of the
-/// sheet beats one of the default sheet.
+/// Among declarations that are equally important a row's own beats one of the sheet or the default
+/// sheet, and one of the sheet beats one of the default sheet.
 pub fn nearer_wins()
     ensures { NearerWins }
 {}
@@ -22,4 +26,35 @@ pub fn nearer_wins()
 /// Of all declarations that reach a row at most one is beaten by no other.
 pub fn at_most_one_is_greatest()
     ensures { AtMostOneGreatest }
+{}
+
+/// Which declarations of a sheet reach a row, and which of two of them beats the other, by the rules
+/// that they stand in: how specific a rule counts at the row is that of its most specific selector
+/// among those that match there.
+pub fn sheets_are_ordered()
+    ensures reach { SheetReachesRows }
+    ensures order { SheetsAreOrdered }
+{}
+
+/// A declaration that reaches a row and beats all others of its property gives the row its value.
+pub fn winners_count()
+    ensures { WinnersCount }
+{
+    styles_are_values();
+}
+
+/// A row has at most one style, and what [`crate::Styles`] has at a number is the style of the row
+/// with that number.
+pub fn one_style()
+    ensures matchers { MatchersAgree }
+    ensures one { OneStyle }
+    ensures those { StylesAreThose }
+{}
+
+/// The edit that names a change leads from what was before it to what is after it, and edits that
+/// lead somewhere, followed by edits that lead on from there, lead all the way.
+pub fn edits_lead()
+    ensures none { NoEditLeads }
+    ensures each { EachEditLeads }
+    ensures on { EditsLeadOn }
 {}

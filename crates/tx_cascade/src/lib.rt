@@ -10,6 +10,8 @@ mod key;
 pub mod laws;
 mod path;
 mod reaching;
+mod sameness;
+mod sharing;
 mod styles;
 #[cfg(test)]
 mod tests;

@@ -5,7 +5,7 @@ ghost use Rattle.tx_tree.specs.Row.{plain};
 ghost use Rattle.tx_cascade.specs.Cascade.{style_below, styled, up_from, IsStyleOf};
 ghost use Rattle.tx_cascade.specs.Reaching.{reaching, selectors_in};
 ghost use Rattle.tx_cascade.specs.Tested.{TestedAtMost};
-ghost use Rattle.tx_cascade.specs.Tests.{tests_of};
+ghost use Rattle.tx_cascade.specs.Matchers.{matchers_of};
 
 use crate::below::style_below;
 use crate::reaching::reaching;
@@ -28,7 +28,7 @@ pub fn row_style<L: Ledger>(
     steps: &mut Steps<L>,
 ) -> Result<Style, NoMemory>
     requires { is_some (row_at row.now.node.0 tree.now.rows) ≡ true }
-    ensures exact { IfOk result (λ style. style ≡ style_below above.now (reaching (tests_of pseudo.now tree.now.rows row.now.node.0) sheet.now row.now.inline)) }
+    ensures exact { IfOk result (λ style. style ≡ style_below above.now (reaching (matchers_of pseudo.now tree.now.rows row.now.node.0) sheet.now row.now.inline)) }
     ensures ticks { TestedAtMost L.ticked (selectors_in sheet.now) steps.old.ledger steps.new.ledger }
 {
     let all = reaching(alloc, sheet, tree, pseudo, row, steps)?;
@@ -45,7 +45,7 @@ fn style_at<L: Ledger>(
     steps: &mut Steps<L>,
 ) -> Result<Style, NoMemory>
     requires { is_some (row_at node.0 tree.now.rows) ≡ true }
-    ensures exact { IfOk result (λ style. style ≡ styled (tests_of pseudo.now tree.now.rows) sheet.now (up_from tree.now.rows node.0)) }
+    ensures exact { IfOk result (λ style. style ≡ styled (matchers_of pseudo.now tree.now.rows) sheet.now (up_from tree.now.rows node.0)) }
     ensures ticks { TestedAtMost L.ticked (selectors_in sheet.now * length (up_from tree.now.rows node.0)) steps.old.ledger steps.new.ledger }
 {
     let _root = tree.root();

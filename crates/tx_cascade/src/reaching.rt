@@ -1,11 +1,10 @@
 //! The declarations that reach a row.
 ghost use Rattle.std.specs.Prelude.{◌≡◌, ◌++◌, true, length, is_some, IfOk, OnOk};
 ghost use Rattle.tx_tree.specs.Rows.{row_at};
-ghost use Rattle.tx_cascade.specs.Key.{weight_parts};
-ghost use Rattle.tx_cascade.specs.Better.{better};
+ghost use Rattle.tx_cascade.specs.Key.{weight_parts, greater};
 ghost use Rattle.tx_cascade.specs.Reaching.{weight, weight_at, no_weight, all_reached, of_rule, of_rules, inline_declarations, reaching, selectors_of, selectors_in};
 ghost use Rattle.tx_cascade.specs.Tested.{TestedAtMost};
-ghost use Rattle.tx_cascade.specs.Tests.{tests_of};
+ghost use Rattle.tx_cascade.specs.Matchers.{matchers_of};
 ghost use Rattle.tx_cascade.specs.declared.key.Origin.TheVariants.{Inline};
 
 use crate::key::{Key, Origin, Weight, outweighs};
@@ -41,7 +40,7 @@ fn weight(selector: &Selector) -> Weight
 
 /// The greater of two weights, if there are any.
 fn heavier(best: Option<Weight>, weight: Weight) -> Option<Weight>
-    ensures { result ≡ better weight_parts best weight }
+    ensures { result ≡ greater weight_parts best weight }
 {
     match best {
         None => Some(weight),
@@ -64,7 +63,7 @@ fn is_match<L: Ledger>(
     steps: &mut Steps<L>,
 ) -> bool
     requires { is_some (row_at node.0 tree.now.rows) ≡ true }
-    ensures exact { result ≡ tests_of pseudo.now tree.now.rows node.0 selector.now.compounds }
+    ensures exact { result ≡ matchers_of pseudo.now tree.now.rows node.0 selector.now.compounds }
     ensures ticks { TestedAtMost L.ticked 1 steps.old.ledger steps.new.ledger }
 {
     let _root = tree.root();
@@ -81,7 +80,7 @@ fn weight_at<L: Ledger>(
     steps: &mut Steps<L>,
 ) -> Option<Weight>
     requires { is_some (row_at node.0 tree.now.rows) ≡ true }
-    ensures exact { result ≡ weight_at (tests_of pseudo.now tree.now.rows node.0) selectors.now }
+    ensures exact { result ≡ weight_at (matchers_of pseudo.now tree.now.rows node.0) selectors.now }
     ensures ticks { TestedAtMost L.ticked (length selectors.now) steps.old.ledger steps.new.ledger }
 {
     let mut best = None;
@@ -136,7 +135,7 @@ fn push_rule<L: Ledger>(
     steps: &mut Steps<L>,
 ) -> Result<(), NoMemory>
     requires { is_some (row_at node.0 tree.now.rows) ≡ true }
-    ensures exact { OnOk result (all.new.items ≡ all.old.items ++ of_rule (tests_of pseudo.now tree.now.rows node.0) origin (number, rule.now)) }
+    ensures exact { OnOk result (all.new.items ≡ all.old.items ++ of_rule (matchers_of pseudo.now tree.now.rows node.0) origin (number, rule.now)) }
     ensures ticks { TestedAtMost L.ticked (length rule.now.selectors) steps.old.ledger steps.new.ledger }
 {
     let selectors = rule.selectors().as_slice();
@@ -160,7 +159,7 @@ fn push_rules<L: Ledger>(
     steps: &mut Steps<L>,
 ) -> Result<(), NoMemory>
     requires { is_some (row_at node.0 tree.now.rows) ≡ true }
-    ensures exact { OnOk result (all.new.items ≡ all.old.items ++ of_rules (tests_of pseudo.now tree.now.rows node.0) origin rules.now) }
+    ensures exact { OnOk result (all.new.items ≡ all.old.items ++ of_rules (matchers_of pseudo.now tree.now.rows node.0) origin rules.now) }
     ensures ticks { TestedAtMost L.ticked (selectors_of rules.now) steps.old.ledger steps.new.ledger }
 {
     for (number, rule) in rules.iter().enumerate() {
@@ -207,7 +206,7 @@ pub fn reaching<L: Ledger>(
     steps: &mut Steps<L>,
 ) -> Result<Vec<Reached>, NoMemory>
     requires { is_some (row_at row.now.node.0 tree.now.rows) ≡ true }
-    ensures exact { IfOk result (λ all. all.items ≡ reaching (tests_of pseudo.now tree.now.rows row.now.node.0) sheet.now row.now.inline) }
+    ensures exact { IfOk result (λ all. all.items ≡ reaching (matchers_of pseudo.now tree.now.rows row.now.node.0) sheet.now row.now.inline) }
     ensures ticks { TestedAtMost L.ticked (selectors_in sheet.now) steps.old.ledger steps.new.ledger }
 {
     let mut all = Vec::new(alloc);

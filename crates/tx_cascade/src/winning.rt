@@ -1,9 +1,8 @@
 //! Which declaration of a property wins.
 ghost use Rattle.std.specs.Prelude.{◌≡◌, option_copied};
 ghost use Rattle.tx_value.specs.Style as style;
-ghost use Rattle.tx_cascade.specs.Better.{better};
 ghost use Rattle.tx_cascade.specs.Cascade.{is_default, is_of, counts, winner, is_initial, given, declared};
-ghost use Rattle.tx_cascade.specs.Key.{key_parts};
+ghost use Rattle.tx_cascade.specs.Key.{key_parts, greater};
 
 use crate::key::{Origin, beats};
 use crate::reaching::Reached;
@@ -34,9 +33,9 @@ fn counts(property: Property, only_default: bool, one: &Reached) -> bool
     is_of
 }
 
-/// The one that wins of a winner so far and one declaration more.
-fn better<'a>(best: Option<&'a Reached>, one: &'a Reached) -> Option<&'a Reached>
-    ensures { option_copied result ≡ better (λ one. key_parts one.key) (option_copied best.entry) one.now }
+/// The one that wins of a winner so far, if there is one, and one declaration more.
+fn greater<'a>(best: Option<&'a Reached>, one: &'a Reached) -> Option<&'a Reached>
+    ensures { option_copied result ≡ greater (λ one. key_parts one.key) (option_copied best.entry) one.now }
 {
     match best {
         None => Some(one),
@@ -57,7 +56,7 @@ fn winner(property: Property, only_default: bool, all: &[Reached]) -> Option<&Re
     let mut best = None;
     for one in all {
         if counts(property, only_default, one) {
-            best = better(best, one);
+            best = greater(best, one);
         }
     }
     best

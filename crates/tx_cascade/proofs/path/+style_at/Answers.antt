@@ -4,7 +4,7 @@ use Rattle.tx_tree.specs.Rows.{row_at}
 use Rattle.tx_tree.specs.declared.row.Row.{Row}
 use Rattle.tx_cascade.specs.Cascade.{up_from}
 use Rattle.tx_cascade.specs.Reaching.{selectors_in}
-use Rattle.tx_cascade.specs.Tests.{tests_of}
+use Rattle.tx_cascade.specs.Matchers.{matchers_of}
 use Rattle.tx_cascade.specs.Tested.{TestedAtMost}
 use Rattle.tx_cascade.proofs.Parents.{row-number}
 use Rattle.tx_cascade.proofs.Paths.{up-parent, up-alone, parent-is-there, answer-below, tested-up}
@@ -37,7 +37,7 @@ pub returns-clause-exact : goal.returns-clause-exact
 returns-clause-exact g t c =
     let rows = c.args.tree.now.rows in
     let row = plain c.in-Some.row.now in
-    let tests = tests_of c.args.pseudo.now rows in
+    let tests = matchers_of c.args.pseudo.now rows in
     elim c.match-parent.branch [
       | in-Some-parent+in_ok-above-in-Some-parent w ↦
           answer-below rows c.root-root.ensures.known.once tests c.args.sheet.now c.args.node.0 row (up_from rows w.in-Some-parent.parent.0) c.match-parent.above (sym c.in-Some.ensures)
