@@ -1,3 +1,5 @@
+mod restyled;
+
 use crate::{Styles, style_of};
 use std::alloc::Global;
 use std::rt::HostRuntime;
@@ -64,6 +66,7 @@ fn property_of(name: &str) -> Result<Property, Fail> {
         "height" => Ok(Property::Height),
         "margin-top" => Ok(Property::MarginTop),
         "margin-left" => Ok(Property::MarginLeft),
+        "min-width" => Ok(Property::MinWidth),
         _ => Err(Fail::from("a property")),
     }
 }
@@ -161,6 +164,35 @@ fn parts_of_the_key(rt: HostRuntime) -> Result<(), Fail> {
 }
 
 #[test]
+fn parts_of_the_key_turned(rt: HostRuntime) -> Result<(), Fail> {
+    let alloc = rt.alloc();
+    each_line(
+        "\
+4 color @ #a { color: green; } Static { color: red !important; } @  => #ff0000
+4 color @ #a { color: red !important; } Static { color: blue !important; } @  => #ff0000
+4 color @ .b { color: red !important; } .c { color: blue !important; } @  => #0000ff
+4 color @  @ color: red !important; color: blue => #ff0000
+3 width @ * { width: 7; } @  => 7Cells
+4 color @ #p #a { color: red; } #a.b.c.d { color: blue; } @  => #ff0000
+4 color @ #a.b.c.d { color: blue; } #p #a { color: red; } @  => #ff0000
+4 color @ #a { color: red; } Container#q .b.c.d { color: blue; } @  => #0000ff
+4 color @ .b:enabled { color: red; } Screen Container Container Static.b { color: blue; } @  => #ff0000
+4 color @ .b { color: red; } :enabled { color: blue; } @  => #0000ff
+4 color @ .b.c { color: red; } Container .b { color: blue; } @  => #ff0000
+4 color @ Static { color: blue; } Container Static { color: red; } @  => #ff0000
+4 color @ Static { color: blue; } Widget { color: red; } @  => #ff0000
+4 color @ * Static { color: red; } Static { color: blue; } @  => #0000ff
+4 color @ .c { color: blue; } .b { color: red; } @  => #ff0000
+4 color @ Static { margin: 1; color: red; } Static { color: blue; } @  => #0000ff
+4 color @ Static { color: blue; color: red; } @  => #ff0000
+4 color @ .b.c, Static { color: red; } .d { color: blue; } @  => #ff0000
+4 color @ Static, .b { color: red; } .c { color: blue; } @  => #0000ff
+4 margin-left @ Static { margin: 1; } @ margin-left: 2; => 2",
+        |line: &str| answer(alloc, line),
+    )
+}
+
+#[test]
 fn what_is_inherited(rt: HostRuntime) -> Result<(), Fail> {
     let alloc = rt.alloc();
     each_line(
@@ -184,7 +216,14 @@ fn what_is_inherited(rt: HostRuntime) -> Result<(), Fail> {
 4 text-style @ #q { text-style: bold; } #a { text-style: none; } @  => marks b
 4 text-style @ Container:focus { text-style: bold; } @  => marks b
 4 text-style @ Container:blur { text-style: bold; } #q { text-style: dim; } @  => marks bd
-2 text-style @ Container:focus { text-style: bold; } @  => marks ",
+2 text-style @ Container:focus { text-style: bold; } @  => marks 
+4 color @ Screen { color: red; } @  => #ff0000
+4 color @ Screen { color: red; } #q { color: blue; } @  => #0000ff
+4 text-style @ #p { text-style: bold; } #q { text-style: none; } @  => marks b
+4 text-style @ #p { text-style: reverse; } #q { text-style: reverse; } @  => marks r
+4 text-style @ #a { text-style: bold; } .b { text-style: dim; } @  => marks b
+4 text-style @ #p { text-style: bold; } @ text-style: dim => marks bd
+4 min-width @ #q { min-width: 5; } @  => Nothing",
         |line: &str| answer(alloc, line),
     )
 }
@@ -210,7 +249,17 @@ fn what_initial_gives(rt: HostRuntime) -> Result<(), Fail> {
 4 color @ #a { color: red; } @ color: => #ff0000
 4 color @ #a { color: red; } @ color: blue; } => #ff0000
 4 color @ #a { color: red; } @ colour: blue => #ff0000
-4 color @ #a { color: red; } @ ; => #ff0000",
+4 color @ #a { color: red; } @ ; => #ff0000
+4 width @ Static { width: 5; } #a { width: initial !important; } @ width: 7 => 1Fr
+4 width @ #a { width: initial; } @ width: 7 => 7Cells
+4 width @ Static { width: initial; } #a { width: 5; } @  => 5Cells
+3 width @ #p { width: 4; } #q { width: initial; } @  => 1Fr
+4 height @ Widget { height: initial; } @  => 0Auto
+1 background @ Screen { background: initial; } @  => Background
+4 color @ #a { color: red; } @ /* a comment */ color: blue => #0000ff
+4 color @ #a { color: red; } @ COLOR: blue => #ff0000
+4 color @ #a { color: red; } @ color: $primary => Primary
+4 color @ $own: lime; #a { color: red; } @ color: $own => #ff0000",
         |line: &str| answer(alloc, line),
     )
 }
