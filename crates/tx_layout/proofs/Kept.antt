@@ -3,7 +3,7 @@ use Rattle.std.proofs.Common.{◌≡◌, ℕ, ◌+◌, ◌<◌, ◌≤◌, ◌�
 use Rattle.std.specs.List.{filter}
 use Rattle.tx_layout.specs.declared.children.Child.{Child}
 use Rattle.tx_layout.specs.declared.styles.BoxStyle.{BoxStyle}
-use Rattle.tx_layout.specs.Children.{numbered, child_at, IsByLayer}
+use Rattle.tx_layout.specs.Children.{numbered, child_at}
 use Rattle.tx_layout.proofs.Lists.{rest_is}
 
 pub numbered_next : (styles : List BoxStyle) (i : ℕ) (s : BoxStyle) (c : Child) (done : List Child) → i < length styles → s ≡ get_or styles i s → c ≡ child_at i s
@@ -27,6 +27,3 @@ pub left_next : (p : Child → Bool) (cs : List Child) (i : ℕ) (c : Child) (b 
     → done ++ filter p (drop i cs) ≡ done ++ filter p (drop (i + 1) cs)
 left_next p cs i c b done h at is no' =
     ap (λ l. done ++ filter p l) (rest_is cs i c h at) ∙ ap (λ l. done ++ l) (left_if p b c (drop (i + 1) cs) is no')
-
-pub by_layer_of : (xs ys ordered : List Child) → ys ≡ xs → IsByLayer ys ordered → IsByLayer xs ordered
-by_layer_of xs ys ordered is by = subst (λ l. IsByLayer l ordered) is by

@@ -1,9 +1,10 @@
 -- Loops over lists that stop at the first refusal.
-use Rattle.std.proofs.Common.{◌≡◌, ℕ, ◌+◌, ◌<◌, ◌∙◌, refl, sym, ap, List, [], ◌∷◌, ◌++◌, length, drop, get_or, Result, Ok, Err, append_assoc, add-one, drop-cons, length-append}
+use Rattle.std.proofs.Common.{◌≡◌, ℕ, ◌+◌, ◌<◌, ◌∙◌, refl, sym, ap, List, [], ◌∷◌, ◌++◌, length, drop, get_or, Option, Some, None, Result, Ok, Err, append_assoc, append-nil, add-one, drop-cons, length-append}
 use Rattle.std.specs.Prelude.{All}
 use Rattle.std.proofs.lemmas.List.Elements.{All-push}
+use Rattle.tx_read.specs.Answer.{Tells}
 use Rattle.tx_read.specs.Reading.{◌>>=◌}
-use Rattle.tx_layout.specs.Steps.{each_of, fold_steps}
+use Rattle.tx_layout.specs.Steps.{each_of}
 
 -- a list in front of what is given
 abbrev pub prefixed : {B F : Type 0} → List B → Result (List B) F → Result (List B) F
@@ -39,3 +40,58 @@ each_refused f xs i x fault done h at is =
 
 pub pushed_length : {A : Type 0} (xs : List A) (y : A) (n : ℕ) → length xs ≡ n → length (xs ++ y ∷ []) ≡ n + 1
 pushed_length xs y n is = length-append xs (y ∷ []) ∙ ap (λ k. k + 1) is
+
+-- ---- steps over a list, each with an answer, of which something is made
+
+-- the steps that are made so far, and what they come to
+pub record Reached {A B F S : Type 0} (f : A → Result B F) (whole : List B → S) (all rest : List A) (now : S) : Type 0 where
+  pub done : List B
+  pub is : now ≡ whole done
+  pub steps : each_of f all ≡ prefixed done (each_of f rest)
+
+pub reached_none : {A B F S : Type 0} (f : A → Result B F) (whole : List B → S) (all : List A) (now : S) → now ≡ whole [] → Reached f whole all all now
+reached_none f whole all now is = record { done = []; is = is; steps = sym (prefixed-nil (each_of f all)) }
+
+-- an answer of which something is made
+pub record Answered {B F S : Type 0} (r : Result B F) (g : B → S) (now : S) : Type 0 where
+  pub value : B
+  pub answer : r ≡ Ok value
+  pub is : now ≡ g value
+
+pub answered : {B F S : Type 0} (r : Result B F) (g : B → S) (now : S) → (r >>= (λ y. Ok (g y))) ≡ Ok now → Answered r g now
+answered (Ok y) g now e = record { value = y; answer = refl; is = let h : now ≡ g y = cc in h }
+answered (Err fault) g now e = absurd (let h : ⊥ = cc in h)
+
+pub refused : {B F S : Type 0} (r : Result B F) (g : B → S) (fault : F) → (let x : Result S F = r >>= (λ y. Ok (g y)) in x) ≡ Err fault → r ≡ Err fault
+refused (Ok y) g fault e = absurd (let h : ⊥ = cc in h)
+refused (Err other) g fault e = let h : other ≡ fault = cc in ap (λ x. Err x) h
+
+pub reached_next : {A B F S : Type 0} (f : A → Result B F) (whole : List B → S) (all rest more : List A) (x : A) (now next : S) → (reached : Reached f whole all rest now) → rest ≡ x ∷ more
+    → Answered (f x) (λ y. whole (reached.done ++ y ∷ [])) next → Reached f whole all more next
+reached_next f whole all rest more x now next reached at a =
+    record {
+      done = reached.done ++ a.value ∷ [];
+      is = a.is;
+      steps = reached.steps ∙ (ap (λ l. prefixed reached.done (each_of f l)) at ∙ stepped f x more a.value reached.done a.answer);
+    }
+
+pub reached_refused : {A B F S : Type 0} (f : A → Result B F) (whole : List B → S) (all rest more : List A) (x : A) (now : S) (fault : F) → Reached f whole all rest now → rest ≡ x ∷ more
+    → f x ≡ Err fault → each_of f all >>= (λ ys. Ok (whole ys)) ≡ Err fault
+reached_refused f whole all rest more x now fault reached at is =
+    let e : each_of f all ≡ Err fault = reached.steps ∙ (ap (λ l. prefixed reached.done (each_of f l)) at ∙ ap (λ r. prefixed reached.done (r >>= (λ y. each_of f more >>= (λ ys. Ok (y ∷ ys))))) is) in
+    ap (λ r. r >>= (λ ys. Ok (whole ys))) e
+
+pub reached_told : {A B F S : Type 0} (f : A → Result B F) (whole : List B → S) (h : B → S) (all rest more : List A) (x : A) (now : S) (o : Option F) → Reached f whole all rest now → rest ≡ x ∷ more
+    → Tells o (f x >>= (λ y. Ok (h y))) → Tells o (each_of f all >>= (λ ys. Ok (whole ys)))
+reached_told f whole h all rest more x now None reached at told = tt
+reached_told f whole h all rest more x now (Some fault) reached at told = reached_refused f whole all rest more x now fault reached at (refused (f x) h fault told)
+
+pub reached_stops : {A B F S : Type 0} (f : A → Result B F) (whole : List B → S) (all rest more : List A) (x : A) (now : S) (o : Option F) → Reached f whole all rest now → rest ≡ x ∷ more
+    → Tells o (f x) → Tells o (each_of f all >>= (λ ys. Ok (whole ys)))
+reached_stops f whole all rest more x now None reached at told = tt
+reached_stops f whole all rest more x now (Some fault) reached at told = reached_refused f whole all rest more x now fault reached at told
+
+pub reached_all : {A B F S : Type 0} (f : A → Result B F) (whole : List B → S) (all : List A) (now : S) → Reached f whole all [] now → each_of f all >>= (λ ys. Ok (whole ys)) ≡ Ok now
+reached_all f whole all now reached =
+    let e : each_of f all ≡ Ok reached.done = reached.steps ∙ ap (λ l. Ok l) (append-nil reached.done) in
+    ap (λ r. r >>= (λ ys. Ok (whole ys))) e ∙ ap (λ s. Ok s) (sym reached.is)

@@ -1,5 +1,7 @@
 -- The arrangement of the children of a container, and the sizes that it asks for itself.
-use Rattle.std.specs.Prelude.{⊤, ℕ, ◌+◌, ◌-◌, ◌*◌, ◌/◌, ℤ, pos, ◌+ℤ◌, ◌-ℤ◌, Option, Some, None, List, [], ◌∷◌, length, Result, Ok, Err, max, min, slice_set, replicate}
+use Rattle.std.specs.Prelude.{ℕ, ◌+◌, ◌-◌, ◌*◌, ◌/◌, ◌==◌, ℤ, pos, ◌+ℤ◌, ◌-ℤ◌, Option, Some, None, List, [], ◌∷◌, ◌++◌, length, map, Result, Ok, Err, min, if◌then◌else◌}
+use Rattle.std.specs.List.{flat_map, range_with_len}
+use Rattle.std.specs.Option.{option_or}
 use Rattle.tx_read.specs.Reading.{◌>>=◌}
 use Rattle.tx_geom.specs.declared.choices.Axis.{Axis}
 use Rattle.tx_geom.specs.declared.choices.Axis.TheVariants.{Width, Height}
@@ -10,48 +12,39 @@ use Rattle.tx_geom.specs.declared.choices.AlignY.TheVariants.{Top as AtTop, Midd
 use Rattle.tx_geom.specs.declared.choices.Edge.{Edge}
 use Rattle.tx_geom.specs.declared.choices.Edge.TheVariants.{Top, Right, Bottom, Left}
 use Rattle.tx_geom.specs.declared.choices.LayoutKind.{LayoutKind}
-use Rattle.tx_geom.specs.declared.choices.LayoutKind.TheVariants.{Vertical, Horizontal, Grid}
 use Rattle.tx_geom.specs.declared.places.Region.{Region}
 use Rattle.tx_geom.specs.declared.places.Size.{Size}
 use Rattle.tx_box.specs.declared.items.Basis.{Basis}
-use Rattle.tx_box.specs.declared.items.LayoutFault.{LayoutFault}
-use Rattle.tx_box.specs.declared.items.LayoutFault.TheVariants.{Fraction, NoMemory}
 use Rattle.tx_layout.specs.declared.styles.Ask.{Ask}
 use Rattle.tx_layout.specs.declared.styles.Arrangement.{Arrangement}
 use Rattle.tx_layout.specs.declared.styles.BoxStyle.{BoxStyle}
+use Rattle.tx_layout.specs.declared.styles.GridStyle.{GridStyle}
 use Rattle.tx_layout.specs.declared.children.Child.{Child}
 use Rattle.tx_layout.specs.declared.children.Laid.{Laid}
+use Rattle.tx_layout.specs.declared.children.Setting.{Setting}
 use Rattle.tx_layout.specs.declared.layers.Edges.{Edges}
-use Rattle.tx_layout.specs.Children.{IsByLayer, numbered, layers, docked, at_sides, flow}
-use Rattle.tx_layout.specs.Room.{edges_of, side_edges, inside, extent}
+use Rattle.tx_layout.specs.Children.{numbered, layers, docked, at_sides, flow}
+use Rattle.tx_layout.specs.Room.{greatest, edges_of, edges_along, inside}
 use Rattle.tx_layout.specs.Sides.{sized, sized_both}
-use Rattle.tx_layout.specs.Steps.{fold_steps}
+use Rattle.tx_layout.specs.Flow.{Flow, flow_of, flow_extent}
+use Rattle.tx_layout.specs.Steps.{each_of}
 
--- ---- one layer
-
--- the direction in which the children of a container follow each other
-abbrev pub main_of : LayoutKind → Option Axis
-main_of Vertical = Some Height
-main_of Horizontal = Some Width
-main_of Grid = None
-
--- one of the kinds in which they do
-abbrev pub IsInLine : LayoutKind → Type 0
-IsInLine Vertical = ⊤
-IsInLine Horizontal = ⊤
-IsInLine Grid = ⊥
+-- ---- the parts of a layer
 
 -- an area and the screen
 abbrev pub basis_of : Size → Size → Basis
 basis_of area screen = record { area = area; screen = screen }
 
--- the docked children with their cells, in the whole area
+-- the docked children with their cells, each by itself in the whole area
 abbrev pub laid_docked : (Ask → Option ℕ) → Basis → List Child → Result (List Child) Axis
 laid_docked meaning basis cs = sized_both meaning None basis (docked cs)
 
--- the flow with its cells, in what the edges leave
-abbrev pub laid_flow : (Ask → Option ℕ) → Option Axis → Basis → Edges → List Child → Result (List Child) Axis
-laid_flow meaning main basis e cs = sized_both meaning main (basis_of (inside e basis.area) basis.screen) (flow cs)
+-- what docked children leave of an area
+abbrev pub flow_basis : Basis → List Child → Basis
+flow_basis basis ds = basis_of (inside (edges_of ds) basis.area) basis.screen
+
+abbrev pub flow_setting : Edges → Setting → Setting
+flow_setting e setting = record { main = setting.main; basis = basis_of (inside e setting.basis.area) setting.basis.screen; count = setting.count }
 
 -- ---- regions
 
@@ -89,16 +82,25 @@ halves_y AtBottom = 2
 abbrev pub shift : ℕ → ℕ → ℕ → ℕ
 shift halves room extent = ((room - extent) * halves) / 2
 
--- ---- all layers
+-- ---- one layer
 
--- children with their regions, each written at its place
-abbrev pub put_docked : Size → List Child → List (Option Region) → List (Option Region)
-put_docked area [] placed = placed
-put_docked area (c ∷ cs) placed = put_docked area cs (slice_set placed c.place (Some (docked_region area c)))
+-- the regions of children by their places, and how far the flow goes over its room
+pub record Layer : Type 0 where
+  pub regions : List (ℕ × Region)
+  pub over : Size
 
-abbrev pub put_flow : ℕ → ℕ → List Child → List (Option Region) → List (Option Region)
-put_flow left top [] placed = placed
-put_flow left top (c ∷ cs) placed = put_flow left top cs (slice_set placed c.place (Some (flow_region left top c)))
+-- where a flow begins: behind the edge, and with the halves of the free cells before it
+abbrev pub start_x : AlignX → Edges → Size → Flow → ℕ
+start_x align e room f = e.left + shift (halves_x align) room.width f.wide
+
+abbrev pub start_y : AlignY → Edges → Size → Flow → ℕ
+start_y align e room f = e.top + shift (halves_y align) room.height f.tall
+
+abbrev pub at_edges : Size → List Child → List (ℕ × Region)
+at_edges area ds = map (λ c. (c.place, docked_region area c)) ds
+
+abbrev pub in_flow : ℕ → ℕ → List Child → List (ℕ × Region)
+in_flow left top cs = map (λ c. (c.place, flow_region left top c)) cs
 
 -- the greatest number that a size can tell
 abbrev pub most : ℕ
@@ -108,98 +110,91 @@ most = 4294967295
 abbrev pub past : ℕ → ℕ → ℕ
 past room extent = min (extent - room) most
 
--- how children stand in a container: their direction, the halves of the free cells, the area and the screen
-abbrev pub start_x : ℕ → Option Axis → Edges → Size → List Child → ℕ
-start_x halves main e room cs = e.left + shift halves room.width (extent main Width cs)
+abbrev pub over_of : Size → Flow → Size
+over_of room f = record { width = past room.width f.wide; height = past room.height f.tall }
 
-abbrev pub start_y : ℕ → Option Axis → Edges → Size → List Child → ℕ
-start_y halves main e room cs = e.top + shift halves room.height (extent main Height cs)
-
--- the flow of a layer with its regions, in a room
-abbrev pub flow_put : (AlignX × AlignY) → Option Axis → Edges → Size → List Child → List (Option Region) → List (Option Region)
-flow_put align main e room cs placed =
-    put_flow (start_x (halves_x align.0) main e room cs) (start_y (halves_y align.1) main e room cs) cs placed
-
--- how far a layer goes over its room, and the layers before it
-abbrev pub over_with : Option Axis → Size → List Child → Size → Size
-over_with main room cs over =
-    record { width = max over.width (past room.width (extent main Width cs)); height = max over.height (past room.height (extent main Height cs)) }
-
--- a layer with its cells, behind the layers so far
-abbrev pub with_layer : (AlignX × AlignY) → Option Axis → Size → List Child → List Child → Arrangement → Arrangement
-with_layer align main area ds fs laid =
+-- the docked children and the flow of a layer, in the room that the edges leave
+abbrev pub layer_in : (AlignX × AlignY) → Size → Edges → Size → List Child → Flow → Layer
+layer_in align area e room ds f =
     record {
-      placed = flow_put align main (edges_of ds) (inside (edges_of ds) area) fs (put_docked area ds laid.placed);
-      over = over_with main (inside (edges_of ds) area) fs laid.over;
+      regions = at_edges area ds ++ in_flow (start_x align.0 e room f) (start_y align.1 e room f) f.children;
+      over = over_of room f;
     }
 
-unfoldable pub arranged_layer : (Ask → Option ℕ) → (AlignX × AlignY) → Option Axis → Basis → List Child → Arrangement → Result Arrangement Axis
-arranged_layer meaning align main basis cs laid =
-    laid_docked meaning basis cs >>= (λ ds. laid_flow meaning main basis (edges_of ds) cs >>= (λ fs. Ok (with_layer align main basis.area ds fs laid)))
+abbrev pub layer_with : (AlignX × AlignY) → Size → List Child → Flow → Layer
+layer_with align area ds f = layer_in align area (edges_of ds) (inside (edges_of ds) area) ds f
 
--- before the first layer
-abbrev pub unplaced : ℕ → Arrangement
-unplaced count = record { placed = replicate count None; over = record { width = 0; height = 0 } }
+unfoldable pub arranged_layer : (Ask → Option ℕ) → LayoutKind → GridStyle → (AlignX × AlignY) → Basis → List Child → Result Layer Axis
+arranged_layer meaning kind grid align basis cs =
+    laid_docked meaning basis cs >>= (λ ds. flow_of meaning kind grid (flow_basis basis ds) (flow cs) >>= (λ f. Ok (layer_with align basis.area ds f)))
 
--- the arrangement of children that are ordered by layer
-unfoldable pub arranged : (Ask → Option ℕ) → (AlignX × AlignY) → Option Axis → Basis → List Child → Result Arrangement Axis
-arranged meaning align main basis ordered = fold_steps (arranged_layer meaning align main basis) (layers ordered) (unplaced (length ordered))
+-- ---- all layers
+
+-- the region of the child at a place, where it has one
+abbrev pub region_of : List (ℕ × Region) → ℕ → Option Region
+region_of [] n = None
+region_of (r ∷ rs) n = option_or (region_of rs n) (if r.0 == n then Some r.1 else None)
+
+-- the same for so many children
+unfoldable pub placed_by : ℕ → List (ℕ × Region) → List (Option Region)
+placed_by count rs = map (region_of rs) (range_with_len 0 count)
+
+-- the greatest of how far the layers go over their rooms
+unfoldable pub over_all : List Layer → Size
+over_all ls = record { width = greatest (map (λ (l : Layer). l.over.width) ls); height = greatest (map (λ (l : Layer). l.over.height) ls) }
+
+abbrev pub regions_of : List Layer → List (ℕ × Region)
+regions_of ls = flat_map (λ (l : Layer). l.regions) ls
+
+abbrev pub together : ℕ → List Layer → Arrangement
+together count ls = record { placed = placed_by count (regions_of ls); over = over_all ls }
+
+-- a layer beside those that are arranged
+abbrev pub arranged_next : (Ask → Option ℕ) → LayoutKind → GridStyle → (AlignX × AlignY) → Basis → ℕ → List Layer → List Child → Result Arrangement Axis
+arranged_next meaning kind grid align basis count done cs = arranged_layer meaning kind grid align basis cs >>= (λ l. Ok (together count (done ++ l ∷ [])))
+
+-- the arrangement of so many children that are given by their layers
+abbrev pub arranged_layers : (Ask → Option ℕ) → LayoutKind → GridStyle → (AlignX × AlignY) → Basis → ℕ → List (List Child) → Result Arrangement Axis
+arranged_layers meaning kind grid align basis count ls = each_of (arranged_layer meaning kind grid align basis) ls >>= (λ laid. Ok (together count laid))
+
+-- The arrangement of the children of a container in an area: the region of each, and how far they go over the room for
+-- them. It is undefined where a step on the way is, with the direction of the first such step.
+abbrev pub arranged : (Ask → Option ℕ) → LayoutKind → GridStyle → (AlignX × AlignY) → List BoxStyle → Size → Size → Result Arrangement Axis
+arranged meaning kind grid align styles area screen =
+    arranged_layers meaning kind grid align (basis_of area screen) (length styles) (layers (numbered 0 styles))
 
 -- ---- measures
 
--- the children at the left and right edge with their columns, in the whole area
-abbrev pub wide_docked : (Ask → Option ℕ) → Basis → List Child → Result (List Child) Axis
-wide_docked meaning basis cs = sized meaning None basis Width (at_sides cs)
+-- the docked children that a direction needs: the columns of those at the left and right edge, or the cells of all
+abbrev pub asked_docked : (Ask → Option ℕ) → Axis → Basis → List Child → Result (List Child) Axis
+asked_docked meaning Width basis cs = sized meaning None basis Width (at_sides cs)
+asked_docked meaning Height basis cs = laid_docked meaning basis cs
 
--- the flow with its columns, in what the edges leave
-abbrev pub wide_flow : (Ask → Option ℕ) → Option Axis → Basis → Edges → List Child → Result (List Child) Axis
-wide_flow meaning main basis e cs = sized meaning main (basis_of (inside e basis.area) basis.screen) Width (flow cs)
-
--- the width that a layer asks for: its left and right edge, and the extent of the flow between them
-unfoldable pub wide_layer : (Ask → Option ℕ) → Option Axis → Basis → List Child → Result ℕ Axis
-wide_layer meaning main basis cs =
-    wide_docked meaning basis cs >>= (λ ds.
-    wide_flow meaning main basis (side_edges ds) cs >>= (λ fs.
-    Ok ((side_edges ds).left + (side_edges ds).right + extent main Width fs)))
-
--- the height that it asks for: its top and bottom edge, and the extent of the flow between them
-unfoldable pub tall_layer : (Ask → Option ℕ) → Option Axis → Basis → List Child → Result ℕ Axis
-tall_layer meaning main basis cs =
-    laid_docked meaning basis cs >>= (λ ds.
-    laid_flow meaning main basis (edges_of ds) cs >>= (λ fs.
-    Ok ((edges_of ds).top + (edges_of ds).bottom + extent main Height fs)))
-
--- the greater of a number and what a layer asks for
-abbrev pub greater : (List Child → Result ℕ Axis) → List Child → ℕ → Result ℕ Axis
-greater asks layer n = asks layer >>= (λ m. Ok (max n m))
+-- what a layer asks for along a direction: its two edges, and how far the flow goes between them
+unfoldable pub asked_layer : (Ask → Option ℕ) → LayoutKind → GridStyle → Axis → Basis → List Child → Result ℕ Axis
+asked_layer meaning kind grid axis basis cs =
+    asked_docked meaning axis basis cs >>= (λ ds.
+    flow_extent meaning kind grid axis (flow_basis basis ds) (flow cs) >>= (λ n.
+    Ok (edges_along axis (edges_of ds) + n)))
 
 -- the greatest of what the layers ask for, at most 65,535
-unfoldable pub greatest_of : (List Child → Result ℕ Axis) → List Child → Result ℕ Axis
-greatest_of asks ordered = fold_steps (greater asks) (layers ordered) 0 >>= (λ n. Ok (min n 65535))
+abbrev pub most_asked : (Ask → Option ℕ) → LayoutKind → GridStyle → Axis → Basis → List (List Child) → Result ℕ Axis
+most_asked meaning kind grid axis basis ls = each_of (asked_layer meaning kind grid axis basis) ls >>= (λ ns. Ok (greatest ns))
+
+abbrev pub asked_layers : (Ask → Option ℕ) → LayoutKind → GridStyle → Axis → Basis → List (List Child) → Result ℕ Axis
+asked_layers meaning kind grid axis basis ls = most_asked meaning kind grid axis basis ls >>= (λ n. Ok (min n 65535))
 
 -- the width that a container asks for in an area
-abbrev pub wide : (Ask → Option ℕ) → Option Axis → Size → Size → List Child → Result ℕ Axis
-wide meaning main area screen ordered = greatest_of (wide_layer meaning main (basis_of area screen)) ordered
+abbrev pub wide : (Ask → Option ℕ) → LayoutKind → GridStyle → List BoxStyle → Size → Size → Result ℕ Axis
+wide meaning kind grid styles area screen = asked_layers meaning kind grid Width (basis_of area screen) (layers (numbered 0 styles))
 
 -- the height that it asks for at a width, in a viewport of that width and the area's height
-abbrev pub tall : (Ask → Option ℕ) → Option Axis → ℕ → Size → Size → List Child → Result ℕ Axis
-tall meaning main width area screen ordered =
-    greatest_of (tall_layer meaning main (basis_of (record { width = width; height = area.height }) screen)) ordered
+abbrev pub tall : (Ask → Option ℕ) → LayoutKind → GridStyle → List BoxStyle → ℕ → Size → Size → Result ℕ Axis
+tall meaning kind grid styles width area screen =
+    asked_layers meaning kind grid Height (basis_of (record { width = width; height = area.height }) screen) (layers (numbered 0 styles))
 
 -- ---- what a call gives
 
 -- the arrangement so far, as contracts see it
 abbrev pub seen : Laid → Arrangement
 seen laid = record { placed = laid.placed.items; over = laid.over }
-
--- unless memory was wanting
-abbrev pub UnlessNoMemory : {R : Type 0} → Result R LayoutFault → Type 0 → Type 0
-UnlessNoMemory (Ok value) holds = holds
-UnlessNoMemory (Err (Fraction axis)) holds = holds
-UnlessNoMemory (Err NoMemory) holds = Unit {0}
-
--- the children in the order of their layers, for which this holds
-pub record Ordered (children : List BoxStyle) (holds : List Child → Type 0) : Type 0 where
-  pub ordered : List Child
-  pub by_layer : IsByLayer (numbered 0 children) ordered
-  pub so : holds ordered

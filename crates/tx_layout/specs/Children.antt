@@ -1,8 +1,6 @@
--- The children of a container: numbered, ordered by layer, and cut into layers and their parts.
-use Rattle.std.specs.Prelude.{ℕ, ◌+◌, ◌<◌, ◌≡◌, ◌==◌, ◌≤◌, ◌^◌, Bool, true, false, not, Option, Some, None, List, [], ◌∷◌, if◌then◌else◌}
+-- The children of a container: numbered, and cut into layers and their parts.
+use Rattle.std.specs.Prelude.{ℕ, ◌+◌, ◌<◌, ◌≡◌, ◌==◌, ◌≤◌, ◌^◌, nat_lt, Bool, true, false, not, Option, Some, None, List, [], ◌∷◌, map, if◌then◌else◌}
 use Rattle.std.specs.List.{filter}
-use Rattle.std.specs.List.Sorted.{IsPermutation, IsSortedByKey, IsStableByKey}
-use Rattle.std.specs.Ordering.{nat_cmp}
 use Rattle.tx_geom.specs.declared.choices.Edge.{Edge}
 use Rattle.tx_geom.specs.declared.choices.Edge.TheVariants.{Top, Right, Bottom, Left}
 use Rattle.tx_layout.specs.declared.styles.BoxStyle.{BoxStyle}
@@ -39,22 +37,35 @@ numbered n (style ∷ styles) = child_at n style ∷ numbered (n + 1) styles
 abbrev pub layer_of : Child → ℕ
 layer_of c = c.style.layer
 
--- the same children by their layers, and those of one layer in the order in which they stood
-pub record IsByLayer (children ordered : List Child) : Type 0 where
-  pub same : IsPermutation children ordered
-  pub rises : IsSortedByKey layer_of nat_cmp ordered
-  pub stable : IsStableByKey layer_of nat_cmp children ordered
+-- ---- layers
 
--- a child in front of layers: in the first one, where that is the child's, else in a layer of its own
-abbrev pub in_front : Child → List (List Child) → List (List Child)
-in_front c [] = (c ∷ []) ∷ []
-in_front c ([] ∷ layers) = (c ∷ []) ∷ ([] ∷ layers)
-in_front c ((d ∷ ds) ∷ layers) = if layer_of c == layer_of d then (c ∷ (d ∷ ds)) ∷ layers else (c ∷ []) ∷ ((d ∷ ds) ∷ layers)
+-- a list of ascending numbers with one more, which stands in it once
+abbrev pub with_number : ℕ → List ℕ → List ℕ
+with_number n [] = n ∷ []
+with_number n (m ∷ ms) = if n == m then m ∷ ms else if nat_lt n m then n ∷ (m ∷ ms) else m ∷ with_number n ms
+
+-- the numbers of the layers of children: each once, ascending
+abbrev pub layer_numbers : List Child → List ℕ
+layer_numbers [] = []
+layer_numbers (c ∷ cs) = with_number (layer_of c) (layer_numbers cs)
+
+abbrev pub is_in_layer : ℕ → Child → Bool
+is_in_layer n c = layer_of c == n
+
+-- the layers of children by their numbers, each with its children in the order of the document
+unfoldable pub layers : List Child → List (List Child)
+layers cs = map (λ n. filter (is_in_layer n) cs) (layer_numbers cs)
+
+-- a child before runs: in the first one, where that is of the child's layer, else in a run of its own
+abbrev pub in_first : Child → List (List Child) → List (List Child)
+in_first c [] = (c ∷ []) ∷ []
+in_first c ([] ∷ runs) = (c ∷ []) ∷ ([] ∷ runs)
+in_first c ((d ∷ ds) ∷ runs) = if layer_of c == layer_of d then (c ∷ (d ∷ ds)) ∷ runs else (c ∷ []) ∷ ((d ∷ ds) ∷ runs)
 
 -- children cut where the number of their layer changes
-abbrev pub layers : List Child → List (List Child)
-layers [] = []
-layers (c ∷ cs) = in_front c (layers cs)
+abbrev pub runs : List Child → List (List Child)
+runs [] = []
+runs (c ∷ cs) = in_first c (runs cs)
 
 -- ---- the parts of a layer
 

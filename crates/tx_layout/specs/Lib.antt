@@ -4,4 +4,5 @@ pub mod Style
 pub mod Children
 pub mod Sides
 pub mod Room
+pub mod Flow
 pub mod Arrangement

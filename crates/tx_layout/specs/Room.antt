@@ -1,5 +1,6 @@
 -- The room that docked children take, what is left for the flow, and how far the flow goes.
-use Rattle.std.specs.Prelude.{ℕ, ◌+◌, ◌-◌, ◌<◌, ◌^◌, Bool, true, false, Option, Some, None, List, [], ◌∷◌, max, if◌then◌else◌}
+use Rattle.std.specs.Prelude.{ℕ, ◌+◌, ◌-◌, ◌<◌, ◌^◌, Bool, true, false, Option, Some, None, List, [], ◌∷◌, map, max, if◌then◌else◌, unwrap_or}
+use Rattle.std.specs.List.{filter, last_or}
 use Rattle.tx_geom.specs.declared.choices.Axis.{Axis}
 use Rattle.tx_geom.specs.declared.choices.Axis.TheVariants.{Width, Height}
 use Rattle.tx_geom.specs.declared.choices.Edge.{Edge}
@@ -12,6 +13,11 @@ use Rattle.tx_layout.specs.declared.layers.Part.{Part}
 use Rattle.tx_layout.specs.declared.layers.Part.TheVariants.{Docked, AtSides, Flow}
 use Rattle.tx_layout.specs.Children.{is_docked, is_at_side, is_in_flow}
 use Rattle.tx_layout.specs.Sides.{is_main, side_in}
+
+-- the greatest of numbers, and 0 where there are none
+abbrev pub greatest : List ℕ → ℕ
+greatest [] = 0
+greatest (n ∷ ns) = max n (greatest ns)
 
 -- whether a child is in a part of its layer
 abbrev pub is_in : Part → Child → Bool
@@ -34,44 +40,35 @@ abbrev pub is_at : Edge → Option Edge → Bool
 is_at edge None = false
 is_at edge (Some other) = is_edge edge other
 
--- what a child takes of an edge
-abbrev pub taken_by : Edge → Axis → Child → ℕ
-taken_by edge axis c = if is_at edge c.style.dock then outer_end axis c else 0
+-- a child is docked at an edge
+abbrev pub stands_at : Edge → Child → Bool
+stands_at edge c = is_at edge c.style.dock
 
--- the greatest of a number and what the children take of an edge
-abbrev pub taken_from : Edge → Axis → ℕ → List Child → ℕ
-taken_from edge axis n [] = n
-taken_from edge axis n (c ∷ cs) = taken_from edge axis (max n (taken_by edge axis c)) cs
-
--- the greatest of what the docked children take of an edge
+-- what an edge takes: the greatest of the sizes, with both margins, of the children that are docked there
 unfoldable pub taken : Edge → Axis → List Child → ℕ
-taken edge axis cs = taken_from edge axis 0 cs
+taken edge axis cs = greatest (map (outer_end axis) (filter (stands_at edge) cs))
 
 -- what each edge takes
 abbrev pub edges_of : List Child → Edges
 edges_of cs = record { top = taken Top Height cs; right = taken Right Width cs; bottom = taken Bottom Height cs; left = taken Left Width cs }
 
--- the same where the docked children have their columns alone
-abbrev pub side_edges : List Child → Edges
-side_edges cs = record { top = 0; right = taken Right Width cs; bottom = 0; left = taken Left Width cs }
+-- what the two edges along a direction take
+abbrev pub edges_along : Axis → Edges → ℕ
+edges_along Width e = e.left + e.right
+edges_along Height e = e.top + e.bottom
 
 -- what the edges leave of an area
 abbrev pub inside : Edges → Size → Size
 inside e area = record { width = area.width - (e.left + e.right); height = area.height - (e.top + e.bottom) }
 
--- the greatest of a number and where the children end
-abbrev pub greatest_from : Axis → ℕ → List Child → ℕ
-greatest_from axis n [] = n
-greatest_from axis n (c ∷ cs) = greatest_from axis (max n (outer_end axis c)) cs
+-- where the margin behind the last of them ends, and 0 without children
+abbrev pub last_end : Axis → List Child → ℕ
+last_end axis cs = unwrap_or (last_or None (map (outer_end axis) cs)) 0
 
--- where the last child ends
-abbrev pub last_from : Axis → ℕ → List Child → ℕ
-last_from axis n [] = n
-last_from axis n (c ∷ cs) = last_from axis (outer_end axis c) cs
-
--- how far the flow goes in a direction: along it to the last margin, across it to the farthest one. Without children it goes nowhere
+-- How far children go in a direction: where they follow each other, to the last end with the last margin, else to the
+-- greatest of their sizes with both margins. Without children it is 0.
 unfoldable pub extent : Option Axis → Axis → List Child → ℕ
-extent main axis cs = if is_main main axis then last_from axis 0 cs else greatest_from axis 0 cs
+extent main axis cs = if is_main main axis then last_end axis cs else greatest (map (outer_end axis) cs)
 
 -- edges of fewer than 2^59 cells
 pub record IsEdges (e : Edges) : Type 0 where

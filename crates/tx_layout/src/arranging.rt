@@ -1,36 +1,26 @@
 //! The arrangement of the children of one container.
 
-ghost use Rattle.std.specs.Prelude.{◌≡◌, ◌+◌, ◌-◌, ◌<◌, ◌≤◌, ◌^◌, ℕ, ℤ, pos, ◌+ℤ◌, length, All, IfOk, Option, [], ◌∷◌, drop};
+ghost use Rattle.std.specs.Prelude.{◌≡◌, ◌+◌, ◌-◌, ◌<◌, ◌≤◌, ◌^◌, ℕ, ℤ, pos, ◌+ℤ◌, length, All, IfOk, IfErr, Option, None, List, [], ◌∷◌, ◌++◌};
 ghost use Rattle.std.specs.List.{FoldsTo};
 ghost use Rattle.tx_read.specs.Answer.{Gives};
 ghost use Rattle.tx_io.specs.declared.steps.Tick.TheVariants.{Arranged};
 ghost use Rattle.tx_layout.specs.Ask.{told, Means};
 ghost use Rattle.tx_layout.specs.Style.{IsBoxStyle, IsNearStart, IsShift};
-ghost use Rattle.tx_layout.specs.Children.{IsChild, docked, flow, layers};
-ghost use Rattle.tx_layout.specs.Room.{IsEdges, edges_of, inside, extent};
-ghost use Rattle.tx_layout.specs.Steps.{fold_steps};
-ghost use Rattle.tx_layout.specs.Arrangement.{main_of, IsInLine, basis_of, laid_docked, laid_flow, docked_x, docked_y, region_at, docked_region, flow_region, halves_x, halves_y, shift, put_docked, put_flow, past, flow_put, over_with, with_layer, arranged_layer, unplaced, arranged, seen, UnlessNoMemory, Ordered};
+ghost use Rattle.tx_layout.specs.Children.{IsChild, docked, flow, runs};
+ghost use Rattle.tx_layout.specs.Room.{IsEdges, edges_of, inside};
+ghost use Rattle.tx_layout.specs.Flow.{IsInLine, IsFlow, seen_flow};
+ghost use Rattle.tx_layout.specs.Arrangement.{basis_of, laid_docked, flow_setting, docked_x, docked_y, region_at, docked_region, flow_region, halves_x, halves_y, shift, Layer, start_x, start_y, at_edges, in_flow, past, over_of, layer_in, arranged_layer, arranged_next, placed_by, over_all, together, arranged_layers, arranged, seen};
 
-use crate::children::{Child, Laid, Setting};
-use crate::layers::{Edges, Part, by_layer, edges_of, extent, layer_len, part_of};
+use crate::children::{Child, Laid, LaidFlow, Setting};
+use crate::flows::flow_of;
+use crate::layers::{Edges, Part, by_layer, edges_of, layer_len, part_of};
 use crate::sides::sized_both;
 use crate::styles::{Arrangement, Ask, BoxStyle, GridStyle};
 use std::alloc::Global;
 use tx_box::{Basis, LayoutFault};
-use tx_geom::{AlignX, AlignY, Axis, Edge, LayoutKind, Region, Size};
+use tx_geom::{AlignX, AlignY, Edge, LayoutKind, Region, Size};
 use tx_io::{Ledger, Steps, Tick};
 use tx_text::Items;
-
-/// The direction in which the children of a container follow each other.
-pub fn main_of(kind: LayoutKind) -> Option<Axis>
-    ensures { result ≡ main_of kind }
-{
-    match kind {
-        LayoutKind::Vertical => Some(Axis::Height),
-        LayoutKind::Horizontal => Some(Axis::Width),
-        LayoutKind::Grid => None,
-    }
-}
 
 /// The docked children of a layer, with their cells.
 pub fn laid_docked<F: Fn(Ask) -> Result<u32, LayoutFault>>(
@@ -55,32 +45,18 @@ pub fn laid_docked<F: Fn(Ask) -> Result<u32, LayoutFault>>(
     sized_both(alloc, &docked, by_itself, measure)
 }
 
-/// The flow of a layer, with its cells in what the edges leave.
-pub fn laid_flow<F: Fn(Ask) -> Result<u32, LayoutFault>>(
-    alloc: Global,
-    layer: &[Child],
-    edges: Edges,
-    setting: Setting,
-    measure: &F,
-) -> Result<Vec<Child>, LayoutFault>
-    requires callable { (ask : Ask) → ask.child < setting.count → F.pre measure.now ask }
-    requires children { All (IsChild setting.count) layer.now }
-    requires count { length layer.now ≤ 2 ^ 24 }
-    requires edges { IsEdges edges }
-    ensures exact { (meaning : Ask → Option ℕ)
-        → Means (F.post measure.now) setting.count meaning
-        → Gives (λ v. v.items) told result (laid_flow meaning setting.main setting.basis edges layer.now) }
-    ensures children { IfOk result (λ v. All (IsChild setting.count) v.items) }
+/// What the edges leave of an area.
+pub fn flow_setting(edges: Edges, setting: Setting) -> Setting
+    requires { IsEdges edges }
+    ensures { result ≡ flow_setting edges setting }
 {
-    let flow = part_of(alloc, layer, Part::Flow, setting.count)?;
-    let within = Setting {
+    Setting {
         basis: Basis {
             area: edges.inside(setting.basis.area),
             screen: setting.basis.screen,
         },
         ..setting
-    };
-    sized_both(alloc, &flow, within, measure)
+    }
 }
 
 // The column at which a docked child begins.
@@ -205,7 +181,7 @@ fn past(room: u32, extent: u64) -> u32
 fn put_docked(placed: &mut [Option<Region>], children: &[Child], area: Size, count: u32)
     requires children { All (IsChild count) children.now }
     requires count { length placed.old ≡ count }
-    ensures exact { placed.new ≡ put_docked area children.now placed.old }
+    ensures exact { (done : List (ℕ × Region)) → placed.old ≡ placed_by count done → placed.new ≡ placed_by count (done ++ at_edges area children.now) }
     ensures count { length placed.new ≡ count }
 {
     for child in children {
@@ -219,7 +195,7 @@ fn put_flow(placed: &mut [Option<Region>], children: &[Child], left: u64, top: u
     requires count { length placed.old ≡ count }
     requires left { left < 2 ^ 60 }
     requires top { top < 2 ^ 60 }
-    ensures exact { placed.new ≡ put_flow left top children.now placed.old }
+    ensures exact { (done : List (ℕ × Region)) → placed.old ≡ placed_by count done → placed.new ≡ placed_by count (done ++ in_flow left top children.now) }
     ensures count { length placed.new ≡ count }
 {
     for child in children {
@@ -227,59 +203,69 @@ fn put_flow(placed: &mut [Option<Region>], children: &[Child], left: u64, top: u
     }
 }
 
-// How far layers go over their rooms.
-fn over_with(main: Option<Axis>, room: Size, children: &[Child], over: Size, count: u32) -> Size
-    requires { All (IsChild count) children.now }
-    ensures { result ≡ over_with main room children.now over }
+// The column at which a flow begins.
+fn start_x(align: AlignX, edges: Edges, room: Size, flow: &LaidFlow, count: u32) -> u64
+    requires edges { IsEdges edges }
+    requires flow { IsFlow count flow.now }
+    ensures exact { result ≡ start_x align edges room (seen_flow flow.now) }
+    ensures bound { result < 2 ^ 60 }
 {
-    let width = past(room.width, extent(children, main, Axis::Width, count));
-    let height = past(room.height, extent(children, main, Axis::Height, count));
+    edges.left + shift(halves_x(align), room.width, flow.wide)
+}
+
+// The row at which it begins.
+fn start_y(align: AlignY, edges: Edges, room: Size, flow: &LaidFlow, count: u32) -> u64
+    requires edges { IsEdges edges }
+    requires flow { IsFlow count flow.now }
+    ensures exact { result ≡ start_y align edges room (seen_flow flow.now) }
+    ensures bound { result < 2 ^ 60 }
+{
+    edges.top + shift(halves_y(align), room.height, flow.tall)
+}
+
+// How far a flow goes over its room, and the flows before it.
+fn over_with(room: Size, flow: &LaidFlow, over: Size) -> Size
+    ensures { (done : List Layer) → over ≡ over_all done → (l : Layer) → l.over ≡ over_of room (seen_flow flow.now) → result ≡ over_all (done ++ l ∷ []) }
+{
     Size {
-        width: over.width.max(width),
-        height: over.height.max(height),
+        width: over.width.max(past(room.width, flow.wide)),
+        height: over.height.max(past(room.height, flow.tall)),
     }
 }
 
-// The flow of a layer with its regions.
-fn flow_put(
-    placed: &mut [Option<Region>],
-    children: &[Child],
+// A layer beside the layers so far.
+fn put_layer(
+    laid: &mut Laid,
+    docked: &[Child],
+    flow: &LaidFlow,
     align: (AlignX, AlignY),
     edges: Edges,
-    room: Size,
-    main: Option<Axis>,
+    area: Size,
     count: u32,
 )
-    requires children { All (IsChild count) children.now }
-    requires count { length placed.old ≡ count }
+    requires docked { All (IsChild count) docked.now }
+    requires flow { IsFlow count flow.now }
     requires edges { IsEdges edges }
-    ensures exact { placed.new ≡ flow_put align main edges room children.now placed.old }
-    ensures count { length placed.new ≡ count }
+    requires count { length laid.old.placed.items ≡ count }
+    ensures exact { (done : List Layer) → seen laid.old ≡ together count done
+        → seen laid.new ≡ together count (done ++ layer_in align area edges (inside edges area) docked.now (seen_flow flow.now) ∷ []) }
+    ensures count { length laid.new.placed.items ≡ count }
 {
-    let free_x = shift(
-        halves_x(align.0),
-        room.width,
-        extent(children, main, Axis::Width, count),
-    );
-    let free_y = shift(
-        halves_y(align.1),
-        room.height,
-        extent(children, main, Axis::Height, count),
-    );
-    put_flow(
-        placed,
-        children,
-        edges.left + free_x,
-        edges.top + free_y,
-        count,
-    );
+    let room = edges.inside(area);
+    let left = start_x(align.0, edges, room, flow, count);
+    let top = start_y(align.1, edges, room, flow, count);
+    put_docked(&mut laid.placed, docked, area, count);
+    put_flow(&mut laid.placed, &flow.children, left, top, count);
+    laid.over = over_with(room, flow, laid.over);
 }
 
-// A layer behind the layers so far.
+// A layer with its cells, beside the layers so far.
 #[tactic(auto, unfolding(crate::specs::Arrangement::arranged_layer))]
 fn arrange_layer<F: Fn(Ask) -> Result<u32, LayoutFault>>(
     alloc: Global,
     layer: &[Child],
+    kind: LayoutKind,
+    grid: &GridStyle,
     align: (AlignX, AlignY),
     setting: Setting,
     laid: &mut Laid,
@@ -291,31 +277,33 @@ fn arrange_layer<F: Fn(Ask) -> Result<u32, LayoutFault>>(
     requires places { length laid.old.placed.items ≡ setting.count }
     ensures exact { (meaning : Ask → Option ℕ)
         → Means (F.post measure.now) setting.count meaning
-        → Gives (λ _. seen laid.new) told result (arranged_layer meaning align setting.main setting.basis layer.now (seen laid.old)) }
+        → (done : List Layer) → seen laid.old ≡ together setting.count done
+        → Gives (λ _. seen laid.new) told result (arranged_next meaning kind grid.now align setting.basis setting.count done layer.now) }
     ensures places { length laid.new.placed.items ≡ setting.count }
 {
     let docked = laid_docked(alloc, layer, setting, measure)?;
     let edges = edges_of(&docked, setting.count);
-    let flow = laid_flow(alloc, layer, edges, setting, measure)?;
-    let room = edges.inside(setting.basis.area);
-    put_docked(&mut laid.placed, &docked, setting.basis.area, setting.count);
-    flow_put(
-        &mut laid.placed,
+    let children = part_of(alloc, layer, Part::Flow, setting.count)?;
+    let within = flow_setting(edges, setting);
+    let flow = flow_of(alloc, &children, kind, grid, within, measure)?;
+    put_layer(
+        laid,
+        &docked,
         &flow,
         align,
         edges,
-        room,
-        setting.main,
+        setting.basis.area,
         setting.count,
     );
-    laid.over = over_with(setting.main, room, &flow, laid.over, setting.count);
     Ok(())
 }
 
-// The layers of children that are ordered by layer, one behind the other.
+// The layers of children that are ordered by layer, one after the other.
 fn arrange_layers<F: Fn(Ask) -> Result<u32, LayoutFault>>(
     alloc: Global,
     ordered: &[Child],
+    kind: LayoutKind,
+    grid: &GridStyle,
     align: (AlignX, AlignY),
     setting: Setting,
     laid: &mut Laid,
@@ -324,77 +312,71 @@ fn arrange_layers<F: Fn(Ask) -> Result<u32, LayoutFault>>(
     requires callable { (ask : Ask) → ask.child < setting.count → F.pre measure.now ask }
     requires children { All (IsChild setting.count) ordered.now }
     requires count { length ordered.now ≤ 2 ^ 24 }
+    requires empty { seen laid.old ≡ together setting.count [] }
     requires places { length laid.old.placed.items ≡ setting.count }
     ensures { (meaning : Ask → Option ℕ)
         → Means (F.post measure.now) setting.count meaning
-        → Gives (λ _. seen laid.new) told result (fold_steps (arranged_layer meaning align setting.main setting.basis) (layers ordered.now) (seen laid.old)) }
+        → Gives (λ _. seen laid.new) told result (arranged_layers meaning kind grid.now align setting.basis setting.count (runs ordered.now)) }
 {
     let mut rest = ordered;
     while !rest.is_empty() {
-        let end = layer_len(rest);
-        arrange_layer(alloc, &rest[..end], align, setting, laid, measure)?;
-        rest = &rest[end..];
+        let (layer, more) = rest.split_at(layer_len(rest));
+        match arrange_layer(alloc, layer, kind, grid, align, setting, laid, measure) {
+            Ok(()) => rest = more,
+            Err(fault) => return Err(fault),
+        }
     }
     Ok(())
 }
 
-// The arrangement of children that are ordered by layer.
-#[tactic(auto, unfolding(crate::specs::Arrangement::arranged))]
-fn arranged<F: Fn(Ask) -> Result<u32, LayoutFault>>(
-    alloc: Global,
-    ordered: &[Child],
-    align: (AlignX, AlignY),
-    setting: Setting,
-    measure: &F,
-) -> Result<Arrangement, LayoutFault>
-    requires callable { (ask : Ask) → ask.child < setting.count → F.pre measure.now ask }
-    requires children { All (IsChild setting.count) ordered.now }
-    requires all { length ordered.now ≡ setting.count }
-    requires count { length ordered.now ≤ 2 ^ 24 }
-    ensures { (meaning : Ask → Option ℕ)
-        → Means (F.post measure.now) setting.count meaning
-        → Gives (λ a. a) told result (arranged meaning align setting.main setting.basis ordered.now) }
+// No child has a region, and nothing goes over.
+fn unplaced(alloc: Global, count: u32) -> Result<Laid, LayoutFault>
+    ensures exact { IfOk result (λ laid. seen laid ≡ together count []) }
+    ensures places { IfOk result (λ laid. length laid.placed.items ≡ count) }
+    ensures refused { IfErr result (λ fault. told fault ≡ None) }
 {
-    let mut laid = Laid {
-        placed: vec![in alloc; None; ordered.len()]?,
-        over: Size {
-            width: 0,
-            height: 0,
-        },
+    let nothing = Size {
+        width: 0,
+        height: 0,
     };
-    arrange_layers(alloc, ordered, align, setting, &mut laid, measure)?;
-    Ok(Arrangement {
-        placed: Items::of(laid.placed),
-        over: laid.over,
+    Ok(Laid {
+        placed: vec![in alloc; None; count as usize]?,
+        over: nothing,
     })
 }
 
-// The arrangement of children in the order of the document.
-fn arranged_styles<F: Fn(Ask) -> Result<u32, LayoutFault>>(
+// The arrangement of the children of a container.
+fn arranged<F: Fn(Ask) -> Result<u32, LayoutFault>>(
     alloc: Global,
-    children: &[BoxStyle],
+    kind: LayoutKind,
+    grid: &GridStyle,
     align: (AlignX, AlignY),
-    main: Option<Axis>,
+    children: &[BoxStyle],
     basis: Basis,
     measure: &F,
 ) -> Result<Arrangement, LayoutFault>
     requires callable { (ask : Ask) → ask.child < length children.now → F.pre measure.now ask }
     requires styles { All IsBoxStyle children.now }
     requires count { length children.now ≤ 65536 }
-    ensures { UnlessNoMemory result
-        (Ordered children.now (λ ordered. (meaning : Ask → Option ℕ)
+    ensures { (meaning : Ask → Option ℕ)
         → Means (F.post measure.now) (length children.now) meaning
-        → Gives (λ a. a) told result (arranged meaning align main basis ordered))) }
+        → Gives (λ a. a) told result (arranged meaning kind grid.now align children.now basis.area basis.screen) }
 {
     let ordered = by_layer(alloc, children)?;
     let count = children.len() as u32;
-    arranged(
-        alloc,
-        &ordered,
-        align,
-        Setting { main, basis, count },
-        measure,
-    )
+    let setting = Setting {
+        main: None,
+        basis,
+        count,
+    };
+    let mut laid = unplaced(alloc, count)?;
+    arrange_layers(
+        alloc, &ordered, kind, grid, align, setting, &mut laid, measure,
+    )?;
+    Ok(Arrangement {
+        placed: Items::of(laid.placed),
+        over: laid.over,
+    })
 }
 
 /// Where the children of a container stand, and how far they go past the room for them.
@@ -415,7 +397,7 @@ fn arranged_styles<F: Fn(Ask) -> Result<u32, LayoutFault>>(
 pub fn arrange<F: Fn(Ask) -> Result<u32, LayoutFault>, L: Ledger>(
     alloc: Global,
     kind: LayoutKind,
-    _grid: &GridStyle,
+    grid: &GridStyle,
     align: (AlignX, AlignY),
     children: &[BoxStyle],
     area: Size,
@@ -427,13 +409,12 @@ pub fn arrange<F: Fn(Ask) -> Result<u32, LayoutFault>, L: Ledger>(
     requires callable { (ask : Ask) → ask.child < length children.now → F.pre measure.now ask }
     requires styles { All IsBoxStyle children.now }
     requires count { length children.now ≤ 65536 }
-    ensures arranged { UnlessNoMemory result
-        (Ordered children.now (λ ordered. (meaning : Ask → Option ℕ)
+    ensures arranged { (meaning : Ask → Option ℕ)
         → Means (F.post measure.now) (length children.now) meaning
-        → Gives (λ a. a) told result (arranged meaning align (main_of kind) (basis_of area screen) ordered))) }
+        → Gives (λ a. a) told result (arranged meaning kind grid.now align children.now area screen) }
     ensures ticked { FoldsTo L.ticked steps.old.ledger (Arranged ∷ []) steps.new.ledger }
 {
     steps.tick(Tick::Arranged);
     let basis = Basis { area, screen };
-    arranged_styles(alloc, children, align, main_of(kind), basis, measure)
+    arranged(alloc, kind, grid, align, children, basis, measure)
 }

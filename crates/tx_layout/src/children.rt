@@ -30,6 +30,14 @@ pub struct Setting {
     pub count: u32,
 }
 
+/// The flow of a layer: its children with their cells, and how far they go to the right and down.
+#[derive(Drop)]
+pub struct LaidFlow {
+    pub children: Vec<Child>,
+    pub wide: u64,
+    pub tall: u64,
+}
+
 /// What the layers so far come to: the region of each child that has one, and how far they go over
 /// their rooms.
 #[derive(Drop)]

@@ -1,12 +1,12 @@
 //! The layers of a container, the room that docked children take, and how far the flow goes.
 
-ghost use Rattle.std.specs.Prelude.{◌≡◌, ◌+◌, ◌<◌, ◌≤◌, ◌^◌, ◌-◌, ℕ, length, All, IfOk, IfErr, take, drop, ◌∷◌, None, Ok};
+ghost use Rattle.std.specs.Prelude.{◌≡◌, ◌+◌, ◌<◌, ◌≤◌, ◌^◌, ◌-◌, ℕ, length, map, All, IfOk, IfErr, take, drop, ◌∷◌, None, Ok};
 ghost use Rattle.std.specs.List.{filter};
 ghost use Rattle.tx_read.specs.Answer.{Gives};
 ghost use Rattle.tx_layout.specs.Ask.{told};
 ghost use Rattle.tx_layout.specs.Style.{IsBoxStyle};
-ghost use Rattle.tx_layout.specs.Children.{IsChild, IsByLayer, child_at, numbered, layers, layer_of, is_side_edge};
-ghost use Rattle.tx_layout.specs.Room.{IsEdges, outer_end, is_at, taken_by, taken, is_edge, is_in, edges_of, side_edges, inside, extent, greatest_from, last_from};
+ghost use Rattle.tx_layout.specs.Children.{IsChild, child_at, numbered, layers, runs, layer_of, is_side_edge};
+ghost use Rattle.tx_layout.specs.Room.{IsEdges, outer_end, is_at, stands_at, taken, is_edge, is_in, edges_of, edges_along, inside, greatest, extent, last_end};
 
 use crate::children::{Child, Side};
 use crate::sides::is_main;
@@ -48,7 +48,7 @@ fn numbered_children(alloc: Global, styles: &[BoxStyle]) -> Result<Vec<Child>, L
 pub fn by_layer(alloc: Global, styles: &[BoxStyle]) -> Result<Vec<Child>, LayoutFault>
     requires styles { All IsBoxStyle styles.now }
     requires count { length styles.now ≤ 65536 }
-    ensures order { IfOk result (λ v. IsByLayer (numbered 0 styles.now) v.items) }
+    ensures layers { IfOk result (λ v. runs v.items ≡ layers (numbered 0 styles.now)) }
     ensures children { IfOk result (λ v. All (IsChild (length styles.now)) v.items) }
     ensures count { IfOk result (λ v. length v.items ≡ length styles.now) }
     ensures refused { IfErr result (λ fault. told fault ≡ None) }
@@ -61,7 +61,7 @@ pub fn by_layer(alloc: Global, styles: &[BoxStyle]) -> Result<Vec<Child>, Layout
 /// How many of the first children are of one layer.
 pub fn layer_len(children: &[Child]) -> usize
     requires some { 0 < length children.now }
-    ensures cut { layers children.now ≡ take result children.now ∷ layers (drop result children.now) }
+    ensures cut { runs children.now ≡ take result children.now ∷ runs (drop result children.now) }
     ensures some { 0 < result }
     ensures within { result ≤ length children.now }
 {
@@ -186,17 +186,11 @@ fn is_edge(edge: Edge, other: Edge) -> bool
     }
 }
 
-// What a child takes of an edge.
-fn taken_by(child: &Child, edge: Edge, axis: Axis, count: u32) -> u64
-    requires { IsChild count child.now }
-    ensures exact { result ≡ taken_by edge axis child.now }
-    ensures bound { result < 2 ^ 59 }
+// Whether a child is docked at an edge.
+fn stands_at(child: &Child, edge: Edge) -> bool
+    ensures { result ≡ stands_at edge child.now }
 {
-    if is_at(child.style.dock, edge) {
-        outer_end(child, axis, count)
-    } else {
-        0
-    }
+    is_at(child.style.dock, edge)
 }
 
 // The greatest of what children take of an edge.
@@ -208,7 +202,10 @@ fn taken(children: &[Child], edge: Edge, axis: Axis, count: u32) -> u64
 {
     let mut most: u64 = 0;
     for child in children {
-        most = most.max(taken_by(child, edge, axis, count));
+        if !stands_at(child, edge) {
+            continue;
+        }
+        most = most.max(outer_end(child, axis, count));
     }
     most
 }
@@ -227,21 +224,19 @@ pub fn edges_of(children: &[Child], count: u32) -> Edges
     }
 }
 
-/// What docked children take at the left and at the right.
-pub fn side_edges(children: &[Child], count: u32) -> Edges
-    requires { All (IsChild count) children.now }
-    ensures exact { result ≡ side_edges children.now }
-    ensures bounds { IsEdges result }
-{
-    Edges {
-        top: 0,
-        right: taken(children, Edge::Right, Axis::Width, count),
-        bottom: 0,
-        left: taken(children, Edge::Left, Axis::Width, count),
-    }
-}
-
 impl Edges {
+    /// What the two edges along a direction take.
+    pub fn along(self, axis: Axis) -> u64
+        requires { IsEdges self }
+        ensures exact { result ≡ edges_along axis self }
+        ensures bound { result < 2 ^ 60 }
+    {
+        match axis {
+            Axis::Width => self.left + self.right,
+            Axis::Height => self.top + self.bottom,
+        }
+    }
+
     /// What the edges leave of an area.
     pub fn inside(self, area: Size) -> Size
         requires { IsEdges self }
@@ -264,20 +259,20 @@ fn room_beside(room: u32, taken: u64) -> u32
 // Where the last of the margins behind children ends.
 fn greatest_end(children: &[Child], axis: Axis, count: u32) -> u64
     requires { All (IsChild count) children.now }
-    ensures exact { result ≡ greatest_from axis 0 children.now }
+    ensures exact { result ≡ greatest (map (outer_end axis) children.now) }
     ensures bound { result < 2 ^ 59 }
 {
-    let mut end: u64 = 0;
+    let mut most: u64 = 0;
     for child in children {
-        end = end.max(outer_end(child, axis, count));
+        most = most.max(outer_end(child, axis, count));
     }
-    end
+    most
 }
 
 // Where the margin behind the last child ends.
 fn last_end(children: &[Child], axis: Axis, count: u32) -> u64
     requires { All (IsChild count) children.now }
-    ensures exact { result ≡ last_from axis 0 children.now }
+    ensures exact { result ≡ last_end axis children.now }
     ensures bound { result < 2 ^ 59 }
 {
     let mut end: u64 = 0;

@@ -6,6 +6,7 @@
 
 mod arranging;
 mod children;
+mod flows;
 mod layers;
 mod measures;
 mod sides;

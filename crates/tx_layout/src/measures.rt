@@ -1,17 +1,19 @@
 //! The sizes that a container asks for itself.
 
 ghost use Rattle.std.specs.Prelude.{◌≡◌, ◌+◌, ◌<◌, ◌≤◌, ◌^◌, ℕ, length, All, IfOk, Option};
+ghost use Rattle.tx_geom.specs.declared.choices.Axis.TheVariants.{Width};
 ghost use Rattle.tx_read.specs.Answer.{Gives};
 ghost use Rattle.tx_layout.specs.Ask.{told, Means};
 ghost use Rattle.tx_layout.specs.Style.{IsBoxStyle};
-ghost use Rattle.tx_layout.specs.Children.{IsChild, layers};
+ghost use Rattle.tx_layout.specs.Children.{IsChild, layers, numbered, runs};
 ghost use Rattle.tx_layout.specs.Room.{IsEdges};
-ghost use Rattle.tx_layout.specs.Steps.{fold_steps};
-ghost use Rattle.tx_layout.specs.Arrangement.{main_of, IsInLine, wide_docked, wide_flow, wide_layer, tall_layer, greater, greatest_of, wide, tall, basis_of, UnlessNoMemory, Ordered};
+ghost use Rattle.tx_layout.specs.Flow.{IsInLine};
+ghost use Rattle.tx_layout.specs.Arrangement.{asked_docked, asked_layer, most_asked, asked_layers, wide, tall, basis_of};
 
-use crate::arranging::{laid_docked, laid_flow, main_of};
+use crate::arranging::{flow_setting, laid_docked};
 use crate::children::{Child, Setting};
-use crate::layers::{Edges, Part, by_layer, edges_of, extent, layer_len, part_of, side_edges};
+use crate::flows::flow_extent;
+use crate::layers::{Part, by_layer, edges_of, layer_len, part_of};
 use crate::sides::sized;
 use crate::styles::{Ask, BoxStyle, GridStyle};
 use std::alloc::Global;
@@ -19,7 +21,7 @@ use tx_box::{Basis, LayoutFault};
 use tx_geom::{Axis, LayoutKind, Size};
 
 // The children at the left and at the right edge, with their columns.
-fn wide_docked<F: Fn(Ask) -> Result<u32, LayoutFault>>(
+fn sides_of<F: Fn(Ask) -> Result<u32, LayoutFault>>(
     alloc: Global,
     layer: &[Child],
     setting: Setting,
@@ -30,7 +32,7 @@ fn wide_docked<F: Fn(Ask) -> Result<u32, LayoutFault>>(
     requires count { length layer.now ≤ 2 ^ 24 }
     ensures exact { (meaning : Ask → Option ℕ)
         → Means (F.post measure.now) setting.count meaning
-        → Gives (λ v. v.items) told result (wide_docked meaning setting.basis layer.now) }
+        → Gives (λ v. v.items) told result (asked_docked meaning Width setting.basis layer.now) }
     ensures children { IfOk result (λ v. All (IsChild setting.count) v.items) }
 {
     let at_sides = part_of(alloc, layer, Part::AtSides, setting.count)?;
@@ -41,80 +43,61 @@ fn wide_docked<F: Fn(Ask) -> Result<u32, LayoutFault>>(
     sized(alloc, &at_sides, Axis::Width, by_itself, measure)
 }
 
-// The flow of a layer, with its columns between these edges.
-fn wide_flow<F: Fn(Ask) -> Result<u32, LayoutFault>>(
+// The docked children that a direction needs.
+fn asked_docked<F: Fn(Ask) -> Result<u32, LayoutFault>>(
     alloc: Global,
     layer: &[Child],
-    edges: Edges,
+    axis: Axis,
     setting: Setting,
     measure: &F,
 ) -> Result<Vec<Child>, LayoutFault>
     requires callable { (ask : Ask) → ask.child < setting.count → F.pre measure.now ask }
     requires children { All (IsChild setting.count) layer.now }
     requires count { length layer.now ≤ 2 ^ 24 }
-    requires edges { IsEdges edges }
     ensures exact { (meaning : Ask → Option ℕ)
         → Means (F.post measure.now) setting.count meaning
-        → Gives (λ v. v.items) told result (wide_flow meaning setting.main setting.basis edges layer.now) }
+        → Gives (λ v. v.items) told result (asked_docked meaning axis setting.basis layer.now) }
     ensures children { IfOk result (λ v. All (IsChild setting.count) v.items) }
 {
-    let flow = part_of(alloc, layer, Part::Flow, setting.count)?;
-    let within = Setting {
-        basis: Basis {
-            area: edges.inside(setting.basis.area),
-            screen: setting.basis.screen,
-        },
-        ..setting
-    };
-    sized(alloc, &flow, Axis::Width, within, measure)
+    match axis {
+        Axis::Width => sides_of(alloc, layer, setting, measure),
+        Axis::Height => laid_docked(alloc, layer, setting, measure),
+    }
 }
 
-// The width that a layer asks for.
-#[tactic(auto, unfolding(crate::specs::Arrangement::wide_layer))]
-fn wide_layer<F: Fn(Ask) -> Result<u32, LayoutFault>>(
+// What a layer asks for along a direction.
+#[tactic(auto, unfolding(crate::specs::Arrangement::asked_layer))]
+fn asked_layer<F: Fn(Ask) -> Result<u32, LayoutFault>>(
     alloc: Global,
     layer: &[Child],
+    kind: LayoutKind,
+    grid: &GridStyle,
+    axis: Axis,
     setting: Setting,
     measure: &F,
 ) -> Result<u64, LayoutFault>
     requires callable { (ask : Ask) → ask.child < setting.count → F.pre measure.now ask }
     requires children { All (IsChild setting.count) layer.now }
     requires count { length layer.now ≤ 2 ^ 24 }
-    ensures { (meaning : Ask → Option ℕ)
+    ensures exact { (meaning : Ask → Option ℕ)
         → Means (F.post measure.now) setting.count meaning
-        → Gives (λ n. n) told result (wide_layer meaning setting.main setting.basis layer.now) }
+        → Gives (λ n. n) told result (asked_layer meaning kind grid.now axis setting.basis layer.now) }
 {
-    let docked = wide_docked(alloc, layer, setting, measure)?;
-    let edges = side_edges(&docked, setting.count);
-    let flow = wide_flow(alloc, layer, edges, setting, measure)?;
-    Ok(edges.left + edges.right + extent(&flow, setting.main, Axis::Width, setting.count))
-}
-
-// The height that a layer asks for.
-#[tactic(auto, unfolding(crate::specs::Arrangement::tall_layer))]
-fn tall_layer<F: Fn(Ask) -> Result<u32, LayoutFault>>(
-    alloc: Global,
-    layer: &[Child],
-    setting: Setting,
-    measure: &F,
-) -> Result<u64, LayoutFault>
-    requires callable { (ask : Ask) → ask.child < setting.count → F.pre measure.now ask }
-    requires children { All (IsChild setting.count) layer.now }
-    requires count { length layer.now ≤ 2 ^ 24 }
-    ensures { (meaning : Ask → Option ℕ)
-        → Means (F.post measure.now) setting.count meaning
-        → Gives (λ n. n) told result (tall_layer meaning setting.main setting.basis layer.now) }
-{
-    let docked = laid_docked(alloc, layer, setting, measure)?;
+    let docked = asked_docked(alloc, layer, axis, setting, measure)?;
     let edges = edges_of(&docked, setting.count);
-    let flow = laid_flow(alloc, layer, edges, setting, measure)?;
-    Ok(edges.top + edges.bottom + extent(&flow, setting.main, Axis::Height, setting.count))
+    let children = part_of(alloc, layer, Part::Flow, setting.count)?;
+    let within = flow_setting(edges, setting);
+    let extent = flow_extent(alloc, &children, kind, grid, axis, within, measure)?;
+    Ok(edges.along(axis) + extent)
 }
 
-// The greatest width that layers ask for.
-fn widest<F: Fn(Ask) -> Result<u32, LayoutFault>>(
+// The greatest of what layers ask for.
+fn most_asked<F: Fn(Ask) -> Result<u32, LayoutFault>>(
     alloc: Global,
     ordered: &[Child],
+    kind: LayoutKind,
+    grid: &GridStyle,
+    axis: Axis,
     setting: Setting,
     measure: &F,
 ) -> Result<u64, LayoutFault>
@@ -123,77 +106,45 @@ fn widest<F: Fn(Ask) -> Result<u32, LayoutFault>>(
     requires count { length ordered.now ≤ 2 ^ 24 }
     ensures { (meaning : Ask → Option ℕ)
         → Means (F.post measure.now) setting.count meaning
-        → Gives (λ n. n) told result (fold_steps (greater (wide_layer meaning setting.main setting.basis)) (layers ordered.now) 0) }
+        → Gives (λ n. n) told result (most_asked meaning kind grid.now axis setting.basis (runs ordered.now)) }
 {
     let mut most: u64 = 0;
     let mut rest = ordered;
     while !rest.is_empty() {
-        let end = layer_len(rest);
-        most = most.max(wide_layer(alloc, &rest[..end], setting, measure)?);
-        rest = &rest[end..];
+        let (layer, more) = rest.split_at(layer_len(rest));
+        match asked_layer(alloc, layer, kind, grid, axis, setting, measure) {
+            Ok(asked) => most = most.max(asked),
+            Err(fault) => return Err(fault),
+        }
+        rest = more;
     }
     Ok(most)
 }
 
-// The greatest height that layers ask for.
-fn tallest<F: Fn(Ask) -> Result<u32, LayoutFault>>(
+// What a container asks for along a direction, at most 65,535.
+fn asked<F: Fn(Ask) -> Result<u32, LayoutFault>>(
     alloc: Global,
-    ordered: &[Child],
-    setting: Setting,
-    measure: &F,
-) -> Result<u64, LayoutFault>
-    requires callable { (ask : Ask) → ask.child < setting.count → F.pre measure.now ask }
-    requires children { All (IsChild setting.count) ordered.now }
-    requires count { length ordered.now ≤ 2 ^ 24 }
-    ensures { (meaning : Ask → Option ℕ)
-        → Means (F.post measure.now) setting.count meaning
-        → Gives (λ n. n) told result (fold_steps (greater (tall_layer meaning setting.main setting.basis)) (layers ordered.now) 0) }
-{
-    let mut most: u64 = 0;
-    let mut rest = ordered;
-    while !rest.is_empty() {
-        let end = layer_len(rest);
-        most = most.max(tall_layer(alloc, &rest[..end], setting, measure)?);
-        rest = &rest[end..];
-    }
-    Ok(most)
-}
-
-// The greatest width that layers ask for, at most 65,535.
-#[tactic(auto, unfolding(crate::specs::Arrangement::greatest_of))]
-fn wide_at_most<F: Fn(Ask) -> Result<u32, LayoutFault>>(
-    alloc: Global,
-    ordered: &[Child],
-    setting: Setting,
+    kind: LayoutKind,
+    grid: &GridStyle,
+    children: &[BoxStyle],
+    axis: Axis,
+    basis: Basis,
     measure: &F,
 ) -> Result<u32, LayoutFault>
-    requires callable { (ask : Ask) → ask.child < setting.count → F.pre measure.now ask }
-    requires children { All (IsChild setting.count) ordered.now }
-    requires count { length ordered.now ≤ 2 ^ 24 }
+    requires callable { (ask : Ask) → ask.child < length children.now → F.pre measure.now ask }
+    requires styles { All IsBoxStyle children.now }
+    requires count { length children.now ≤ 65536 }
     ensures { (meaning : Ask → Option ℕ)
-        → Means (F.post measure.now) setting.count meaning
-        → Gives (λ n. n) told result (greatest_of (wide_layer meaning setting.main setting.basis) ordered.now) }
+        → Means (F.post measure.now) (length children.now) meaning
+        → Gives (λ n. n) told result (asked_layers meaning kind grid.now axis basis (layers (numbered 0 children.now))) }
 {
-    let most = widest(alloc, ordered, setting, measure)?;
-    Ok(most.min(65_535) as u32)
-}
-
-// The greatest height that layers ask for, at most 65,535.
-#[tactic(auto, unfolding(crate::specs::Arrangement::greatest_of))]
-fn tall_at_most<F: Fn(Ask) -> Result<u32, LayoutFault>>(
-    alloc: Global,
-    ordered: &[Child],
-    setting: Setting,
-    measure: &F,
-) -> Result<u32, LayoutFault>
-    requires callable { (ask : Ask) → ask.child < setting.count → F.pre measure.now ask }
-    requires children { All (IsChild setting.count) ordered.now }
-    requires count { length ordered.now ≤ 2 ^ 24 }
-    ensures { (meaning : Ask → Option ℕ)
-        → Means (F.post measure.now) setting.count meaning
-        → Gives (λ n. n) told result (greatest_of (tall_layer meaning setting.main setting.basis) ordered.now) }
-{
-    let most = tallest(alloc, ordered, setting, measure)?;
+    let ordered = by_layer(alloc, children)?;
+    let setting = Setting {
+        main: None,
+        basis,
+        count: children.len() as u32,
+    };
+    let most = most_asked(alloc, &ordered, kind, grid, axis, setting, measure)?;
     Ok(most.min(65_535) as u32)
 }
 
@@ -209,7 +160,7 @@ fn tall_at_most<F: Fn(Ask) -> Result<u32, LayoutFault>>(
 pub fn wide_of<F: Fn(Ask) -> Result<u32, LayoutFault>>(
     alloc: Global,
     kind: LayoutKind,
-    _grid: &GridStyle,
+    grid: &GridStyle,
     children: &[BoxStyle],
     area: Size,
     screen: Size,
@@ -219,18 +170,12 @@ pub fn wide_of<F: Fn(Ask) -> Result<u32, LayoutFault>>(
     requires callable { (ask : Ask) → ask.child < length children.now → F.pre measure.now ask }
     requires styles { All IsBoxStyle children.now }
     requires count { length children.now ≤ 65536 }
-    ensures { UnlessNoMemory result
-        (Ordered children.now (λ ordered. (meaning : Ask → Option ℕ)
+    ensures { (meaning : Ask → Option ℕ)
         → Means (F.post measure.now) (length children.now) meaning
-        → Gives (λ n. n) told result (wide meaning (main_of kind) area screen ordered))) }
+        → Gives (λ n. n) told result (wide meaning kind grid.now children.now area screen) }
 {
-    let ordered = by_layer(alloc, children)?;
-    let setting = Setting {
-        main: main_of(kind),
-        basis: Basis { area, screen },
-        count: children.len() as u32,
-    };
-    wide_at_most(alloc, &ordered, setting, measure)
+    let basis = Basis { area, screen };
+    asked(alloc, kind, grid, children, Axis::Width, basis, measure)
 }
 
 /// The height that a container asks for at a width: the greatest of what its layers ask for, at most
@@ -245,7 +190,7 @@ pub fn wide_of<F: Fn(Ask) -> Result<u32, LayoutFault>>(
 pub fn tall_of<F: Fn(Ask) -> Result<u32, LayoutFault>>(
     alloc: Global,
     kind: LayoutKind,
-    _grid: &GridStyle,
+    grid: &GridStyle,
     children: &[BoxStyle],
     width: u32,
     area: Size,
@@ -256,23 +201,17 @@ pub fn tall_of<F: Fn(Ask) -> Result<u32, LayoutFault>>(
     requires callable { (ask : Ask) → ask.child < length children.now → F.pre measure.now ask }
     requires styles { All IsBoxStyle children.now }
     requires count { length children.now ≤ 65536 }
-    ensures { UnlessNoMemory result
-        (Ordered children.now (λ ordered. (meaning : Ask → Option ℕ)
+    ensures { (meaning : Ask → Option ℕ)
         → Means (F.post measure.now) (length children.now) meaning
-        → Gives (λ n. n) told result (tall meaning (main_of kind) width area screen ordered))) }
+        → Gives (λ n. n) told result (tall meaning kind grid.now children.now width area screen) }
 {
-    let ordered = by_layer(alloc, children)?;
     let viewport = Size {
         width,
         height: area.height,
     };
-    let setting = Setting {
-        main: main_of(kind),
-        basis: Basis {
-            area: viewport,
-            screen,
-        },
-        count: children.len() as u32,
+    let basis = Basis {
+        area: viewport,
+        screen,
     };
-    tall_at_most(alloc, &ordered, setting, measure)
+    asked(alloc, kind, grid, children, Axis::Height, basis, measure)
 }

@@ -1,7 +1,7 @@
 ghost use Rattle.std.specs.Prelude.{◌≡◌, ⊤, ◌≤◌, length, All};
 ghost use Rattle.tx_box.specs.Item.{NotNegative};
 ghost use Rattle.tx_layout.specs.Style.{IsBoxStyle};
-ghost use Rattle.tx_layout.specs.Arrangement.{IsInLine};
+ghost use Rattle.tx_layout.specs.Flow.{IsInLine};
 
 use crate::{Ask, BoxStyle, GridStyle, LayoutFault, arrange, tall_of, wide_of};
 use std::alloc::Global;

@@ -1,15 +1,15 @@
 use Rattle.std.proofs.Common.{◌≡◌, ◌≤◌, ◌^◌, length, ℕ, All, Option}
 use Rattle.tx_layout.specs.declared.styles.Ask.{Ask}
 use Rattle.tx_layout.specs.Ask.{Means}
-use Rattle.tx_layout.specs.Arrangement.{arranged_layer, seen}
-use Rattle.tx_layout.specs.Children.{IsChild, layers}
-use Rattle.tx_layout.specs.Steps.{fold_steps}
+use Rattle.tx_layout.specs.Arrangement.{arranged_layer, together, seen}
+use Rattle.tx_layout.specs.Children.{IsChild, runs}
+use Rattle.tx_layout.proofs.Lists.{Reached}
 use Rattle.tx_layout.proofs.arranging.arrange_layers.Given as goal
 
 abbrev pub invariant-loop-rest : goal.invariant-loop-rest
 invariant-loop-rest g l = record {
   done : (meaning : Ask → Option ℕ) → Means (goal.F-post g l.measure) l.setting.count meaning
-      → fold_steps (arranged_layer meaning l.align l.setting.main l.setting.basis) (layers l.ordered) (seen l.initial.laid) ≡ fold_steps (arranged_layer meaning l.align l.setting.main l.setting.basis) (layers l.rest) (seen l.laid);
+      → Reached (arranged_layer meaning l.kind l.grid l.align l.setting.basis) (together l.setting.count) (runs l.ordered) (runs l.rest) (seen l.laid);
   children : All (IsChild l.setting.count) l.rest;
   count : length l.rest ≤ 2 ^ 24;
   places : length l.laid.placed.items ≡ l.setting.count;

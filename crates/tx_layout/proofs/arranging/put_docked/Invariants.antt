@@ -1,9 +1,10 @@
-use Rattle.std.proofs.Common.{◌≡◌, drop, length}
-use Rattle.tx_layout.specs.Arrangement.{put_docked}
+use Rattle.std.proofs.Common.{◌≡◌, ℕ, List, ◌++◌, take, length}
+use Rattle.tx_geom.specs.declared.places.Region.{Region}
+use Rattle.tx_layout.specs.Arrangement.{placed_by, at_edges}
 use Rattle.tx_layout.proofs.arranging.put_docked.Given as goal
 
 abbrev pub invariant-loop-child : goal.invariant-loop-child
 invariant-loop-child l = record {
-  done : put_docked l.area l.children l.initial.placed ≡ put_docked l.area (drop l.child-index l.children) l.placed;
+  done : (done : List (ℕ × Region)) → l.initial.placed ≡ placed_by l.count done → l.placed ≡ placed_by l.count (done ++ at_edges l.area (take l.child-index l.children));
   count : length l.placed ≡ l.count;
 }

@@ -1,9 +1,12 @@
 use Rattle.std.proofs.Common.{◌≡◌, drop, ◌<◌, ◌^◌}
-use Rattle.tx_layout.specs.Room.{taken_from}
+use Rattle.std.specs.Prelude.{map}
+use Rattle.std.specs.List.{filter}
+use Rattle.tx_layout.specs.Room.{outer_end, stands_at}
+use Rattle.tx_layout.proofs.Greatest.{greatest_from}
 use Rattle.tx_layout.proofs.layers.taken.Given as goal
 
 abbrev pub invariant-loop-child : goal.invariant-loop-child
 invariant-loop-child l = record {
-  done : taken_from l.edge l.axis 0 l.initial.children ≡ taken_from l.edge l.axis l.most (drop l.child-index l.children);
+  done : greatest_from 0 (map (outer_end l.axis) (filter (stands_at l.edge) l.initial.children)) ≡ greatest_from l.most (map (outer_end l.axis) (filter (stands_at l.edge) (drop l.child-index l.children)));
   bound : l.most < 2 ^ 59;
 }

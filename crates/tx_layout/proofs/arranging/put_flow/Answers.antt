@@ -1,0 +1,21 @@
+use Rattle.std.proofs.Common.{◌<◌, length, arith, ◌∙◌, sym, ap, List, rules, ◌++◌, Some}
+use Rattle.std.specs.Prelude.{slice_set}
+use Rattle.std.proofs.lemmas.List.{length-set}
+use Rattle.tx_layout.specs.declared.children.Child.{Child}
+use Rattle.tx_layout.specs.Arrangement.{flow_region}
+use Rattle.tx_layout.proofs.Placed.{put_next}
+use Rattle.tx_layout.proofs.arranging.put_flow.Goals as goal
+
+pub loop-child-preserved : goal.loop-child-preserved
+loop-child-preserved c =
+    let i = c.loop-child.invariant in
+    let x = c.child-item.result in
+    let cs = c.args.children.now in
+    let within : c.loop-child.child-index < length cs = omega arith in
+    let below : x.place < c.args.count = search rules in
+    record {
+      done = λ done is.
+          ap (λ r. slice_set c.loop-child.placed x.place (Some r)) c.flow_region.ensures
+          ∙ put_next c.args.count (λ (d : Child). (d.place, flow_region c.args.left c.args.top d)) cs c.loop-child.child-index x done c.loop-child.placed within c.child-item.is below (i.done done is);
+      count = length-set c.loop-child.placed x.place (Some c.flow_region.result) ∙ i.count;
+    }

@@ -1,0 +1,19 @@
+use Rattle.std.proofs.Common.{◌≡◌, ◌≤◌, ◌<◌, ◌^◌, length, ℕ, All, Option}
+use Rattle.tx_layout.specs.declared.styles.Ask.{Ask}
+use Rattle.tx_layout.specs.Ask.{Means}
+use Rattle.tx_layout.specs.Arrangement.{asked_layer}
+use Rattle.tx_layout.specs.Children.{IsChild, runs}
+use Rattle.tx_layout.specs.Room.{greatest}
+use Rattle.tx_layout.proofs.Lists.{Reached}
+use Rattle.tx_layout.proofs.measures.most_asked.Given as goal
+
+abbrev pub invariant-loop-rest : goal.invariant-loop-rest
+invariant-loop-rest g l = record {
+  done : (meaning : Ask → Option ℕ) → Means (goal.F-post g l.measure) l.setting.count meaning
+      → Reached (asked_layer meaning l.kind l.grid l.axis l.setting.basis) greatest (runs l.ordered) (runs l.rest) l.most;
+  children : All (IsChild l.setting.count) l.rest;
+  count : length l.rest ≤ 2 ^ 24;
+}
+
+abbrev pub decreases-loop-rest : goal.decreases-loop-rest
+decreases-loop-rest g l = length l.rest
