@@ -96,7 +96,7 @@ lowest_sum k x y hx hy =
 pub lowest_negated : Known → (x : Ratio) → IsLowest x → IsLowest (negated x)
 lowest_negated k x h = (k.sums.opposite x.den x.num x (k.forms.itself x h)).lowest_terms
 
-amount_sum : Known → (x y : Ratio) → IsAmount x → IsAmount y → IsAmount (sum_of x y)
+pub amount_sum : Known → (x y : Ratio) → IsAmount x → IsAmount y → IsAmount (sum_of x y)
 amount_sum k x y hx hy =
     let b = over_both k x y hx.lowest hy.lowest in
     let p = not_negative_product x.num (pos y.den) hx.not_negative (omega (arith, ints)) in

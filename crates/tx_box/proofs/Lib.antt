@@ -10,3 +10,4 @@ pub mod Passes
 pub mod Places
 pub mod Shares
 pub mod Totals
+pub mod Follows

@@ -287,7 +287,7 @@ done_last (suc n) r ps qs left h e =
           done_last n next.0.0 next.0.1 qs left (grind (arith, b, low, h)) (rw b at next.2)
     ]
 
-amount_last : Known → (n : ℕ) (r : Ratio) (ps qs : List Part) (left : Ratio) → IsLowest r → Every IsAmountPart ps → last_round n r ps ≡ Some (left, qs) → Every IsAmountPart qs × IsLowest left
+pub amount_last : Known → (n : ℕ) (r : Ratio) (ps qs : List Part) (left : Ratio) → IsLowest r → Every IsAmountPart ps → last_round n r ps ≡ Some (left, qs) → Every IsAmountPart qs × IsLowest left
 unfolding last_round
 amount_last w zero r ps qs left h a e = (subst (Every IsAmountPart) (same_second r left ps qs e) a, subst IsLowest (same_first r left ps qs e) h)
 amount_last w (suc n) r ps qs left h a e =
@@ -499,7 +499,7 @@ all_placed w k m x (c ∷ (d ∷ cs)) (g ∷ gs) (n ∷ ns) spans o g0 hk some c
 
 -- ---- all together
 
-lowest_less_each : Known → (r t : Ratio) (ps : List Part) → IsLowest r → Every IsAmountPart ps → less_each r (settled_sizes ps) ≡ Some t → IsLowest t
+pub lowest_less_each : Known → (r t : Ratio) (ps : List Part) → IsLowest r → Every IsAmountPart ps → less_each r (settled_sizes ps) ≡ Some t → IsLowest t
 lowest_less_each w r t [] h a e = subst IsLowest (same_some r t e) h
 lowest_less_each w r t (Settled c ∷ ps) h a e =
     let s = and_then_some _ (sub r c) t e in
@@ -676,7 +676,7 @@ ends_at_total w total_size g0 gs parts last left cs spans a count e low some f g
 
 -- ---- the items
 
-all_amounts : Known → (axis : Axis) (basis : Basis) (items : List Item) (own : List Size) (ps : List Part) → All IsSized items → All HasFractions items
+pub all_amounts : Known → (axis : Axis) (basis : Basis) (items : List Item) (own : List Size) (ps : List Part) → All IsSized items → All HasFractions items
     → each (λ (x : Item × Size). part_of x.0 (bases axis basis x.1)) (zip items own) ≡ Some ps → Every IsAmountPart ps
 all_amounts w axis basis [] own ps h f e = subst (Every IsAmountPart) (same_some [] ps e) tt
 all_amounts w axis basis (item ∷ items) [] ps h f e = subst (Every IsAmountPart) (same_some [] ps e) tt

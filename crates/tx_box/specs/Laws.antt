@@ -1,5 +1,5 @@
 -- What the rounds and the spans come to, in an author's words.
-use Rattle.std.specs.Prelude.{ℕ, ◌+◌, ◌≡◌, ◌⊎◌, pos, ◌+ℤ◌, ◌<ℤ◌, Some, None, IfSome, List, length, All, Any, unwrap_or}
+use Rattle.std.specs.Prelude.{ℕ, ◌+◌, ◌≡◌, ◌⊎◌, pos, ◌+ℤ◌, ◌<ℤ◌, ◌≤ℤ◌, ◌<◌, Some, None, IfSome, List, length, All, Any, slice_index, slice_index_or, unwrap_or}
 use Rattle.std.specs.List.{AllZip, zip, last_or}
 use Rattle.tx_frac.specs.Ratio.{Ratio, IsLowest, product_of}
 use Rattle.tx_frac.specs.declared.scalars.Unit.TheVariants.{Fr}
@@ -60,3 +60,14 @@ FillsTotal =
     → IsRow items gaps own → axis_parts items axis basis own ≡ Some parts → last_of (side axis basis.area) gaps parts ≡ Some (left, last)
     → SharesRoom left last → axis_spans items gaps axis basis own ≡ Some spans
     → (end : Span) × (last_or None spans ≡ Some end) × (end.to +ℤ pos (unwrap_or (last_or None gaps) 0) ≡ pos (side axis basis.area))
+
+-- no span ends before it begins, and each begins where the one before it ends, with the gap between them
+pub record Follow (gaps : List ℕ) (spans : List Span) : Type 0 where
+  pub forward : All (λ (s : Span). s.from ≤ℤ s.to) spans
+  pub next : (n : ℕ) (d : Span) → n + 1 < length spans → (slice_index_or spans (n + 1) d).from ≡ (slice_index_or spans n d).to +ℤ pos (slice_index gaps (n + 1))
+
+-- the spans of an axis follow each other
+abbrev pub SpansFollow : Type 0
+SpansFollow =
+    (items : List Item) (gaps : List ℕ) (axis : Axis) (basis : Basis) (own : List Size) (spans : List Span)
+    → IsRow items gaps own → axis_spans items gaps axis basis own ≡ Some spans → Follow gaps spans

@@ -1,7 +1,7 @@
 //! What authors expect of an axis and of a box, as contracts of functions that do nothing. They hold
 //! of the definitions that [`crate::resolve_axis`] and [`crate::box_of`] give the answers of.
 
-ghost use Rattle.tx_box.specs.Laws.{FillsTotal, OneUnit};
+ghost use Rattle.tx_box.specs.Laws.{FillsTotal, OneUnit, SpansFollow};
 ghost use Rattle.tx_box.specs.Ordinary.{OrdinaryAxis, OrdinaryBox};
 
 /// Each item with a share in `fr` gets its share of one unit, which is the same for all of them,
@@ -17,6 +17,16 @@ pub fn one_unit()
 /// 0 and what is left isn't below 0, the last end and the last gap come to the whole area.
 pub fn fills_total()
     ensures { FillsTotal }
+{
+    tx_frac::laws::one_form();
+    tx_frac::laws::sums_over_one();
+    tx_frac::laws::products_over_two();
+}
+
+/// Each span begins where the one before it ends, with the gap between them, and none ends before
+/// it begins.
+pub fn spans_follow()
+    ensures { SpansFollow }
 {
     tx_frac::laws::one_form();
     tx_frac::laws::sums_over_one();
