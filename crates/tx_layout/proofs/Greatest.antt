@@ -1,5 +1,5 @@
 -- The greatest of numbers, as loops find it.
-use Rattle.std.proofs.Common.{◌≡◌, ℕ, ◌+◌, ◌∙◌, refl, sym, ap, List, [], ◌∷◌, ◌++◌, arith, Some, None}
+use Rattle.std.proofs.Common.{◌≡◌, ℕ, ◌∙◌, refl, sym, ap, List, [], ◌∷◌, ◌++◌, arith, Some, None}
 use Rattle.std.specs.Prelude.{max, unwrap_or, map}
 use Rattle.std.specs.List.{last_or}
 use Rattle.tx_geom.specs.declared.places.Size.{Size}

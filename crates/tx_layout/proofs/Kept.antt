@@ -1,5 +1,5 @@
 -- Loops that number children, and that keep some of them.
-use Rattle.std.proofs.Common.{◌≡◌, ℕ, ◌+◌, ◌<◌, ◌≤◌, ◌∙◌, refl, sym, ap, Bool, true, false, List, [], ◌∷◌, ◌++◌, length, drop, get_or, append_assoc, if◌then◌else◌, subst}
+use Rattle.std.proofs.Common.{◌≡◌, ℕ, ◌+◌, ◌<◌, ◌∙◌, sym, ap, Bool, true, false, List, [], ◌∷◌, ◌++◌, length, drop, get_or, append_assoc, if◌then◌else◌}
 use Rattle.std.specs.List.{filter}
 use Rattle.tx_layout.specs.declared.children.Child.{Child}
 use Rattle.tx_layout.specs.declared.styles.BoxStyle.{BoxStyle}

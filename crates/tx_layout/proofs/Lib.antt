@@ -5,3 +5,9 @@ pub mod Sorted
 pub mod Kept
 pub mod Greatest
 pub mod Placed
+pub mod Ranges
+pub mod Following
+pub mod Frames
+pub mod InTracks
+pub mod Agreeing
+pub mod Filling

@@ -1,7 +1,5 @@
 -- Loops over lists that stop at the first refusal.
 use Rattle.std.proofs.Common.{◌≡◌, ℕ, ◌+◌, ◌<◌, ◌∙◌, refl, sym, ap, List, [], ◌∷◌, ◌++◌, length, drop, get_or, Option, Some, None, Result, Ok, Err, append_assoc, append-nil, add-one, drop-cons, length-append}
-use Rattle.std.specs.Prelude.{All}
-use Rattle.std.proofs.lemmas.List.Elements.{All-push}
 use Rattle.tx_read.specs.Answer.{Tells}
 use Rattle.tx_read.specs.Reading.{◌>>=◌}
 use Rattle.tx_layout.specs.Steps.{each_of}

@@ -1,5 +1,5 @@
 -- The arrangement of the children of a container, and the sizes that it asks for itself.
-use Rattle.std.specs.Prelude.{ℕ, ◌+◌, ◌-◌, ◌*◌, ◌/◌, ◌==◌, ℤ, pos, ◌+ℤ◌, ◌-ℤ◌, Option, Some, None, List, [], ◌∷◌, ◌++◌, length, map, Result, Ok, Err, min, if◌then◌else◌}
+use Rattle.std.specs.Prelude.{ℕ, ◌+◌, ◌-◌, ◌*◌, ◌/◌, ◌==◌, ℤ, pos, ◌+ℤ◌, ◌-ℤ◌, Option, Some, None, List, [], ◌∷◌, ◌++◌, length, map, Result, Ok, min, if◌then◌else◌}
 use Rattle.std.specs.List.{flat_map, range_with_len}
 use Rattle.std.specs.Option.{option_or}
 use Rattle.tx_read.specs.Reading.{◌>>=◌}
@@ -10,7 +10,7 @@ use Rattle.tx_geom.specs.declared.choices.AlignX.TheVariants.{Left as AtLeft, Ce
 use Rattle.tx_geom.specs.declared.choices.AlignY.{AlignY}
 use Rattle.tx_geom.specs.declared.choices.AlignY.TheVariants.{Top as AtTop, Middle as AtMiddle, Bottom as AtBottom}
 use Rattle.tx_geom.specs.declared.choices.Edge.{Edge}
-use Rattle.tx_geom.specs.declared.choices.Edge.TheVariants.{Top, Right, Bottom, Left}
+use Rattle.tx_geom.specs.declared.choices.Edge.TheVariants.{Right, Bottom}
 use Rattle.tx_geom.specs.declared.choices.LayoutKind.{LayoutKind}
 use Rattle.tx_geom.specs.declared.places.Region.{Region}
 use Rattle.tx_geom.specs.declared.places.Size.{Size}
@@ -25,15 +25,12 @@ use Rattle.tx_layout.specs.declared.children.Setting.{Setting}
 use Rattle.tx_layout.specs.declared.layers.Edges.{Edges}
 use Rattle.tx_layout.specs.Children.{numbered, layers, docked, at_sides, flow}
 use Rattle.tx_layout.specs.Room.{greatest, edges_of, edges_along, inside}
-use Rattle.tx_layout.specs.Sides.{sized, sized_both}
-use Rattle.tx_layout.specs.Flow.{Flow, flow_of, flow_extent}
+use Rattle.tx_layout.specs.Sides.{basis_of, sized, sized_both}
+use Rattle.tx_layout.specs.Line.{Flow}
+use Rattle.tx_layout.specs.Flow.{flow_of, flow_extent}
 use Rattle.tx_layout.specs.Steps.{each_of}
 
 -- ---- the parts of a layer
-
--- an area and the screen
-abbrev pub basis_of : Size → Size → Basis
-basis_of area screen = record { area = area; screen = screen }
 
 -- the docked children with their cells, each by itself in the whole area
 abbrev pub laid_docked : (Ask → Option ℕ) → Basis → List Child → Result (List Child) Axis

@@ -1,5 +1,5 @@
 -- The children of a container: numbered, and cut into layers and their parts.
-use Rattle.std.specs.Prelude.{ℕ, ◌+◌, ◌<◌, ◌≡◌, ◌==◌, ◌≤◌, ◌^◌, nat_lt, Bool, true, false, not, Option, Some, None, List, [], ◌∷◌, map, if◌then◌else◌}
+use Rattle.std.specs.Prelude.{ℕ, ◌+◌, ◌<◌, ◌==◌, ◌≤◌, ◌^◌, nat_lt, Bool, true, false, not, Option, Some, None, List, [], ◌∷◌, map, if◌then◌else◌}
 use Rattle.std.specs.List.{filter}
 use Rattle.tx_geom.specs.declared.choices.Edge.{Edge}
 use Rattle.tx_geom.specs.declared.choices.Edge.TheVariants.{Top, Right, Bottom, Left}
@@ -8,9 +8,9 @@ use Rattle.tx_layout.specs.declared.children.Child.{Child}
 use Rattle.tx_layout.specs.declared.children.Side.{Side}
 use Rattle.tx_layout.specs.Style.{IsBoxStyle}
 
--- cells that lie before 2^58
+-- cells that begin before 2^58, and a margin behind that
 pub record IsSide (s : Side) : Type 0 where
-  pub from : s.from ≤ 2 ^ 58
+  pub from : s.from ≤ 2 ^ 58 + 65535
   pub size : s.size < 2 ^ 32
 
 -- one of so many children, with a style that the calls accept

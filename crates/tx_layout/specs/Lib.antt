@@ -4,5 +4,8 @@ pub mod Style
 pub mod Children
 pub mod Sides
 pub mod Room
+pub mod Line
+pub mod Grid
 pub mod Flow
 pub mod Arrangement
+pub mod Laws

@@ -1,5 +1,5 @@
 -- The cells of children in one direction: across it each by itself, along it one after another.
-use Rattle.std.specs.Prelude.{ℕ, ◌+◌, ◌-◌, ℤ, pos, negsuc, ◌-ℤ◌, Bool, true, false, Option, Some, None, List, [], ◌∷◌, Result, Ok, Err, max, map, if◌then◌else◌, ◌≡◌}
+use Rattle.std.specs.Prelude.{ℕ, ◌-◌, ℤ, pos, negsuc, ◌-ℤ◌, Bool, true, false, Option, Some, None, List, [], ◌∷◌, Result, Ok, Err, max, map, if◌then◌else◌}
 use Rattle.std.specs.List.{zip}
 use Rattle.tx_read.specs.Answer.{or_refused}
 use Rattle.tx_read.specs.Reading.{◌>>=◌}
@@ -13,11 +13,14 @@ use Rattle.tx_box.specs.declared.items.Span.{Span}
 use Rattle.tx_box.specs.Sizes.{box_cells}
 use Rattle.tx_box.specs.Axis.{bases, axis_spans}
 use Rattle.tx_layout.specs.declared.styles.Ask.{Ask}
-use Rattle.tx_layout.specs.declared.styles.BoxStyle.{BoxStyle}
 use Rattle.tx_layout.specs.declared.children.Child.{Child}
 use Rattle.tx_layout.specs.declared.children.Side.{Side}
 use Rattle.tx_layout.specs.Steps.{each_of}
 use Rattle.tx_layout.specs.Style.{item_of, size_in, base, inner, is_auto}
+
+-- an area and the screen
+abbrev pub basis_of : Size → Size → Basis
+basis_of area screen = record { area = area; screen = screen }
 
 -- ---- measures
 

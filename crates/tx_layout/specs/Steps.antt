@@ -1,5 +1,5 @@
 -- Steps of which the first refused one counts, over a whole list.
-use Rattle.std.specs.Prelude.{List, [], ◌∷◌, Result, Ok, Err}
+use Rattle.std.specs.Prelude.{List, [], ◌∷◌, Result, Ok}
 use Rattle.tx_read.specs.Reading.{◌>>=◌}
 
 -- what f gives of each element, or its first refusal

@@ -1,16 +1,17 @@
 -- What the calls need of a style, and what a style says along one direction.
-use Rattle.std.specs.Prelude.{ℕ, Bool, true, false, Option, Some, None, List, slice_index_or, IfSome, pos, neg_ℤ, ◌≤ℤ◌, ◌^◌, ℤ}
+use Rattle.std.specs.Prelude.{ℕ, Bool, true, false, Option, None, List, slice_index_or, IfSome, pos, neg_ℤ, ◌≤ℤ◌, ◌≡◌, ◌≤◌, ◌^◌, ℤ, All}
 use Rattle.tx_frac.specs.declared.scalars.Scalar.{Scalar}
 use Rattle.tx_frac.specs.declared.scalars.Unit.{Unit}
 use Rattle.tx_frac.specs.declared.scalars.Unit.TheVariants.{Auto}
 use Rattle.tx_geom.specs.declared.choices.Axis.{Axis}
 use Rattle.tx_geom.specs.declared.choices.Axis.TheVariants.{Width, Height}
-use Rattle.tx_geom.specs.declared.places.Offset.{Offset}
 use Rattle.tx_geom.specs.declared.places.Size.{Size}
 use Rattle.tx_geom.specs.Along.{room_along, less}
 use Rattle.tx_box.specs.Item.{IsLimit, NotNegative}
 use Rattle.tx_box.specs.declared.items.Item.{Item}
+use Rattle.tx_grid.specs.Standing.{IsSpan, IsRowCount}
 use Rattle.tx_layout.specs.declared.styles.BoxStyle.{BoxStyle}
+use Rattle.tx_layout.specs.declared.styles.GridStyle.{GridStyle}
 
 -- from -9,999 to 9,999
 pub record IsShift (z : ℤ) : Type 0 where
@@ -25,8 +26,29 @@ pub record IsBoxStyle (s : BoxStyle) : Type 0 where
   pub least_height : IfSome (slice_index_or s.least 1 None) IsLimit
   pub most_width : IfSome (slice_index_or s.most 0 None) IsLimit
   pub most_height : IfSome (slice_index_or s.most 1 None) IsLimit
+  pub column_span : IsSpan s.column_span
+  pub row_span : IsSpan s.row_span
   pub x : IsShift s.offset.x
   pub y : IsShift s.offset.y
+
+-- a size that is that of the content
+abbrev pub is_auto : Unit → Bool
+is_auto Auto = true
+is_auto _ = false
+
+-- a track: of at least 0, and not `auto`
+pub record IsTrack (s : Scalar) : Type 0 where
+  pub not_negative : NotNegative s.value
+  pub no_auto : is_auto s.unit ≡ false
+
+-- a grid that the calls accept
+pub record IsGridStyle (g : GridStyle) : Type 0 where
+  pub columns : IsSpan g.columns
+  pub rows : IfSome g.rows IsRowCount
+  pub column_tracks : All IsTrack g.column_tracks
+  pub row_tracks : All IsTrack g.row_tracks
+  pub gutter_vertical : g.gutter_vertical ≤ 9999
+  pub gutter_horizontal : g.gutter_horizontal ≤ 9999
 
 -- the size along a direction
 abbrev pub size_in : Axis → BoxStyle → Scalar
@@ -58,11 +80,6 @@ base s area = less area s.margin
 -- the room for the content of a child: its base less its padding and border
 abbrev pub inner : BoxStyle → Size → Size
 inner s area = less (base s area) s.gutter
-
--- a size that is that of the content
-abbrev pub is_auto : Unit → Bool
-is_auto Auto = true
-is_auto _ = false
 
 -- a place within 2^61 cells before and behind
 pub record IsNearStart (z : ℤ) : Type 0 where

@@ -5,11 +5,11 @@ ghost use Rattle.std.specs.List.{FoldsTo};
 ghost use Rattle.tx_read.specs.Answer.{Gives};
 ghost use Rattle.tx_io.specs.declared.steps.Tick.TheVariants.{Arranged};
 ghost use Rattle.tx_layout.specs.Ask.{told, Means};
-ghost use Rattle.tx_layout.specs.Style.{IsBoxStyle, IsNearStart, IsShift};
+ghost use Rattle.tx_layout.specs.Style.{IsBoxStyle, IsGridStyle, IsNearStart, IsShift};
 ghost use Rattle.tx_layout.specs.Children.{IsChild, docked, flow, runs};
 ghost use Rattle.tx_layout.specs.Room.{IsEdges, edges_of, inside};
-ghost use Rattle.tx_layout.specs.Flow.{IsInLine, IsFlow, seen_flow};
-ghost use Rattle.tx_layout.specs.Arrangement.{basis_of, laid_docked, flow_setting, docked_x, docked_y, region_at, docked_region, flow_region, halves_x, halves_y, shift, Layer, start_x, start_y, at_edges, in_flow, past, over_of, layer_in, arranged_layer, arranged_next, placed_by, over_all, together, arranged_layers, arranged, seen};
+ghost use Rattle.tx_layout.specs.Line.{IsFlow, seen_flow};
+ghost use Rattle.tx_layout.specs.Arrangement.{laid_docked, flow_setting, docked_x, docked_y, region_at, docked_region, flow_region, halves_x, halves_y, shift, Layer, start_x, start_y, at_edges, in_flow, past, over_of, layer_in, arranged_layer, arranged_next, placed_by, over_all, together, arranged_layers, arranged, seen};
 
 use crate::children::{Child, Laid, LaidFlow, Setting};
 use crate::flows::flow_of;
@@ -271,9 +271,10 @@ fn arrange_layer<F: Fn(Ask) -> Result<u32, LayoutFault>>(
     laid: &mut Laid,
     measure: &F,
 ) -> Result<(), LayoutFault>
+    requires grid { IsGridStyle grid.now }
     requires callable { (ask : Ask) → ask.child < setting.count → F.pre measure.now ask }
     requires children { All (IsChild setting.count) layer.now }
-    requires count { length layer.now ≤ 2 ^ 24 }
+    requires count { length layer.now ≤ 65536 }
     requires places { length laid.old.placed.items ≡ setting.count }
     ensures exact { (meaning : Ask → Option ℕ)
         → Means (F.post measure.now) setting.count meaning
@@ -309,9 +310,10 @@ fn arrange_layers<F: Fn(Ask) -> Result<u32, LayoutFault>>(
     laid: &mut Laid,
     measure: &F,
 ) -> Result<(), LayoutFault>
+    requires grid { IsGridStyle grid.now }
     requires callable { (ask : Ask) → ask.child < setting.count → F.pre measure.now ask }
     requires children { All (IsChild setting.count) ordered.now }
-    requires count { length ordered.now ≤ 2 ^ 24 }
+    requires count { length ordered.now ≤ 65536 }
     requires empty { seen laid.old ≡ together setting.count [] }
     requires places { length laid.old.placed.items ≡ setting.count }
     ensures { (meaning : Ask → Option ℕ)
@@ -355,6 +357,7 @@ fn arranged<F: Fn(Ask) -> Result<u32, LayoutFault>>(
     basis: Basis,
     measure: &F,
 ) -> Result<Arrangement, LayoutFault>
+    requires grid { IsGridStyle grid.now }
     requires callable { (ask : Ask) → ask.child < length children.now → F.pre measure.now ask }
     requires styles { All IsBoxStyle children.now }
     requires count { length children.now ≤ 65536 }
@@ -382,18 +385,22 @@ fn arranged<F: Fn(Ask) -> Result<u32, LayoutFault>>(
 /// Where the children of a container stand, and how far they go past the room for them.
 ///
 /// In each layer docked children stand at their edge of the whole area. Each edge takes as many
-/// cells as the largest of its children with its margins, and the others follow each other in what
-/// is left, below or beside each other. Between two of them the greater of their margins counts.
-/// Where they take less than that room they are aligned in it. At the end each child is moved by
-/// its offset.
+/// cells as the largest of its children with its margins, and the others stand in what is left:
+/// below or beside each other, where between two of them the greater of their margins counts, or
+/// in the cells of a grid, each cut to the area of the tracks that it takes. Where they take less
+/// than that room they are aligned in it. At the end each child is moved by its offset. A child of
+/// a grid that finds no place among the rows that are given has no region.
 ///
-/// `measure` is asked once for each size that is that of the content. It is refused exactly where
-/// a fraction on the way is, or a measure: the fault has the direction of the first such step, by
-/// the number of the layers, and in each layer by the widths of the docked children, their heights,
-/// the widths of the others, and their heights. Else it fails only where there is no memory.
+/// `measure` is asked once for each size that is that of the content. The arrangement is refused
+/// exactly where a fraction on the way is, or a measure: the fault has the direction of the first
+/// such step, by the number of the layers, and in each layer by the widths of the docked children,
+/// their heights, the columns of a grid and its rows, the widths of the others, and their heights.
+/// Else it fails only where there is no memory. It is one tick, whatever it answers.
 ///
 /// Sizes are at least 0, least and greatest sizes have neither `fr` nor `auto`, offsets are from
-/// -9,999 to 9,999, and there are at most 65,536 children. The kind is not a grid.
+/// -9,999 to 9,999, and there are at most 65,536 children. Spans and the columns of a grid are from
+/// 1 to 100, its rows from 1 to 1,000 where they are given, its gutters at most 9,999, and no track
+/// is `auto`.
 pub fn arrange<F: Fn(Ask) -> Result<u32, LayoutFault>, L: Ledger>(
     alloc: Global,
     kind: LayoutKind,
@@ -405,7 +412,7 @@ pub fn arrange<F: Fn(Ask) -> Result<u32, LayoutFault>, L: Ledger>(
     measure: &F,
     steps: &mut Steps<L>,
 ) -> Result<Arrangement, LayoutFault>
-    requires in_line { IsInLine kind }
+    requires grid { IsGridStyle grid.now }
     requires callable { (ask : Ask) → ask.child < length children.now → F.pre measure.now ask }
     requires styles { All IsBoxStyle children.now }
     requires count { length children.now ≤ 65536 }

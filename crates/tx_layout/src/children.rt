@@ -20,6 +20,14 @@ pub struct Child {
     pub tall: Side,
 }
 
+/// A child of a grid with the columns and rows of the cells that it takes.
+#[derive(Clone, Copy)]
+pub struct Framed {
+    pub child: Child,
+    pub columns: Side,
+    pub rows: Side,
+}
+
 /// In what children are given their sizes.
 #[derive(Clone, Copy)]
 pub struct Setting {

@@ -1,13 +1,16 @@
 //! The flow of a layer: the children that are not docked, in the room that is left for them.
 
-ghost use Rattle.std.specs.Prelude.{◌≡◌, ◌+◌, ◌<◌, ◌≤◌, ◌^◌, ℕ, length, All, IfOk, Option};
+ghost use Rattle.std.specs.Prelude.{◌≡◌, ◌+◌, ◌<◌, ◌≤◌, ◌^◌, ℕ, length, All, IfOk, Option, Some};
 ghost use Rattle.tx_read.specs.Answer.{Gives};
 ghost use Rattle.tx_layout.specs.Ask.{told, Means};
 ghost use Rattle.tx_layout.specs.Children.{IsChild};
 ghost use Rattle.tx_layout.specs.Room.{extent};
-ghost use Rattle.tx_layout.specs.Flow.{main_of, IsInLine, IsFlow, seen_flow, line_of, line_with, sized_for, line_extent, flow_of, flow_extent};
+ghost use Rattle.tx_layout.specs.Style.{IsGridStyle};
+ghost use Rattle.tx_layout.specs.Line.{IsFlow, seen_flow, line_of, line_with, sized_for, line_extent};
+ghost use Rattle.tx_layout.specs.Flow.{flow_of, flow_extent};
 
 use crate::children::{Child, LaidFlow, Setting};
+use crate::grids::{grid_extent, grid_of};
 use crate::layers::extent;
 use crate::sides::{sized, sized_both};
 use crate::styles::{Ask, GridStyle};
@@ -15,19 +18,8 @@ use std::alloc::Global;
 use tx_box::LayoutFault;
 use tx_geom::{Axis, LayoutKind};
 
-// The direction in which the children of a container follow each other.
-fn main_of(kind: LayoutKind) -> Option<Axis>
-    ensures { result ≡ main_of kind }
-{
-    match kind {
-        LayoutKind::Vertical => Some(Axis::Height),
-        LayoutKind::Horizontal => Some(Axis::Width),
-        LayoutKind::Grid => None,
-    }
-}
-
 // Children that follow each other, with their cells.
-#[tactic(auto, unfolding(crate::specs::Flow::line_of))]
+#[tactic(auto, unfolding(crate::specs::Line::line_of))]
 fn line_of<F: Fn(Ask) -> Result<u32, LayoutFault>>(
     alloc: Global,
     children: &[Child],
@@ -75,7 +67,7 @@ fn sized_for<F: Fn(Ask) -> Result<u32, LayoutFault>>(
 }
 
 // How far children that follow each other go in a direction.
-#[tactic(auto, unfolding(crate::specs::Flow::line_extent))]
+#[tactic(auto, unfolding(crate::specs::Line::line_extent))]
 fn line_extent<F: Fn(Ask) -> Result<u32, LayoutFault>>(
     alloc: Global,
     children: &[Child],
@@ -95,12 +87,11 @@ fn line_extent<F: Fn(Ask) -> Result<u32, LayoutFault>>(
     Ok(extent(&sized, setting.main, axis, setting.count))
 }
 
-/// The flow of a layer with its cells.
-pub fn flow_of<F: Fn(Ask) -> Result<u32, LayoutFault>>(
+// Children that follow each other in a direction.
+fn line_along<F: Fn(Ask) -> Result<u32, LayoutFault>>(
     alloc: Global,
     children: &[Child],
-    kind: LayoutKind,
-    _grid: &GridStyle,
+    main: Axis,
     setting: Setting,
     measure: &F,
 ) -> Result<LaidFlow, LayoutFault>
@@ -109,19 +100,43 @@ pub fn flow_of<F: Fn(Ask) -> Result<u32, LayoutFault>>(
     requires count { length children.now ≤ 2 ^ 24 }
     ensures exact { (meaning : Ask → Option ℕ)
         → Means (F.post measure.now) setting.count meaning
-        → Gives seen_flow told result (flow_of meaning kind _grid.now setting.basis children.now) }
+        → Gives seen_flow told result (line_of meaning (Some main) setting.basis children.now) }
     ensures flow { IfOk result (IsFlow setting.count) }
 {
-    let main = main_of(kind);
+    let main = Some(main);
     line_of(alloc, children, Setting { main, ..setting }, measure)
 }
 
-/// How far the flow of a layer goes in a direction, as a measure asks.
-pub fn flow_extent<F: Fn(Ask) -> Result<u32, LayoutFault>>(
+/// The flow of a layer with its cells.
+pub fn flow_of<F: Fn(Ask) -> Result<u32, LayoutFault>>(
     alloc: Global,
     children: &[Child],
     kind: LayoutKind,
-    _grid: &GridStyle,
+    grid: &GridStyle,
+    setting: Setting,
+    measure: &F,
+) -> Result<LaidFlow, LayoutFault>
+    requires grid { IsGridStyle grid.now }
+    requires callable { (ask : Ask) → ask.child < setting.count → F.pre measure.now ask }
+    requires children { All (IsChild setting.count) children.now }
+    requires count { length children.now ≤ 65536 }
+    ensures exact { (meaning : Ask → Option ℕ)
+        → Means (F.post measure.now) setting.count meaning
+        → Gives seen_flow told result (flow_of meaning kind grid.now setting.basis children.now) }
+    ensures flow { IfOk result (IsFlow setting.count) }
+{
+    match kind {
+        LayoutKind::Vertical => line_along(alloc, children, Axis::Height, setting, measure),
+        LayoutKind::Horizontal => line_along(alloc, children, Axis::Width, setting, measure),
+        LayoutKind::Grid => grid_of(alloc, children, grid, setting, measure),
+    }
+}
+
+// How far children that follow each other in one direction go in another.
+fn extent_along<F: Fn(Ask) -> Result<u32, LayoutFault>>(
+    alloc: Global,
+    children: &[Child],
+    main: Axis,
     axis: Axis,
     setting: Setting,
     measure: &F,
@@ -131,9 +146,39 @@ pub fn flow_extent<F: Fn(Ask) -> Result<u32, LayoutFault>>(
     requires count { length children.now ≤ 2 ^ 24 }
     ensures exact { (meaning : Ask → Option ℕ)
         → Means (F.post measure.now) setting.count meaning
-        → Gives (λ n. n) told result (flow_extent meaning kind _grid.now axis setting.basis children.now) }
+        → Gives (λ n. n) told result (line_extent meaning (Some main) axis setting.basis children.now) }
     ensures bound { IfOk result (λ n. n < 2 ^ 59) }
 {
-    let main = main_of(kind);
+    let main = Some(main);
     line_extent(alloc, children, axis, Setting { main, ..setting }, measure)
+}
+
+/// How far the flow of a layer goes in a direction, as a measure asks.
+pub fn flow_extent<F: Fn(Ask) -> Result<u32, LayoutFault>>(
+    alloc: Global,
+    children: &[Child],
+    kind: LayoutKind,
+    grid: &GridStyle,
+    axis: Axis,
+    setting: Setting,
+    measure: &F,
+) -> Result<u64, LayoutFault>
+    requires grid { IsGridStyle grid.now }
+    requires callable { (ask : Ask) → ask.child < setting.count → F.pre measure.now ask }
+    requires children { All (IsChild setting.count) children.now }
+    requires count { length children.now ≤ 65536 }
+    ensures exact { (meaning : Ask → Option ℕ)
+        → Means (F.post measure.now) setting.count meaning
+        → Gives (λ n. n) told result (flow_extent meaning kind grid.now axis setting.basis children.now) }
+    ensures bound { IfOk result (λ n. n < 2 ^ 59) }
+{
+    match kind {
+        LayoutKind::Vertical => {
+            extent_along(alloc, children, Axis::Height, axis, setting, measure)
+        }
+        LayoutKind::Horizontal => {
+            extent_along(alloc, children, Axis::Width, axis, setting, measure)
+        }
+        LayoutKind::Grid => grid_extent(alloc, children, grid, axis, setting),
+    }
 }

@@ -7,10 +7,13 @@
 mod arranging;
 mod children;
 mod flows;
+mod grids;
+pub mod laws;
 mod layers;
 mod measures;
 mod sides;
 mod styles;
+mod tracks;
 
 pub use arranging::arrange;
 pub use measures::{tall_of, wide_of};

@@ -4,11 +4,10 @@ ghost use Rattle.std.specs.Prelude.{◌≡◌, ◌+◌, ◌<◌, ◌≤◌, ◌^
 ghost use Rattle.tx_geom.specs.declared.choices.Axis.TheVariants.{Width};
 ghost use Rattle.tx_read.specs.Answer.{Gives};
 ghost use Rattle.tx_layout.specs.Ask.{told, Means};
-ghost use Rattle.tx_layout.specs.Style.{IsBoxStyle};
+ghost use Rattle.tx_layout.specs.Style.{IsBoxStyle, IsGridStyle};
 ghost use Rattle.tx_layout.specs.Children.{IsChild, layers, numbered, runs};
 ghost use Rattle.tx_layout.specs.Room.{IsEdges};
-ghost use Rattle.tx_layout.specs.Flow.{IsInLine};
-ghost use Rattle.tx_layout.specs.Arrangement.{asked_docked, asked_layer, most_asked, asked_layers, wide, tall, basis_of};
+ghost use Rattle.tx_layout.specs.Arrangement.{asked_docked, asked_layer, most_asked, asked_layers, wide, tall};
 
 use crate::arranging::{flow_setting, laid_docked};
 use crate::children::{Child, Setting};
@@ -76,9 +75,10 @@ fn asked_layer<F: Fn(Ask) -> Result<u32, LayoutFault>>(
     setting: Setting,
     measure: &F,
 ) -> Result<u64, LayoutFault>
+    requires grid { IsGridStyle grid.now }
     requires callable { (ask : Ask) → ask.child < setting.count → F.pre measure.now ask }
     requires children { All (IsChild setting.count) layer.now }
-    requires count { length layer.now ≤ 2 ^ 24 }
+    requires count { length layer.now ≤ 65536 }
     ensures exact { (meaning : Ask → Option ℕ)
         → Means (F.post measure.now) setting.count meaning
         → Gives (λ n. n) told result (asked_layer meaning kind grid.now axis setting.basis layer.now) }
@@ -101,9 +101,10 @@ fn most_asked<F: Fn(Ask) -> Result<u32, LayoutFault>>(
     setting: Setting,
     measure: &F,
 ) -> Result<u64, LayoutFault>
+    requires grid { IsGridStyle grid.now }
     requires callable { (ask : Ask) → ask.child < setting.count → F.pre measure.now ask }
     requires children { All (IsChild setting.count) ordered.now }
-    requires count { length ordered.now ≤ 2 ^ 24 }
+    requires count { length ordered.now ≤ 65536 }
     ensures { (meaning : Ask → Option ℕ)
         → Means (F.post measure.now) setting.count meaning
         → Gives (λ n. n) told result (most_asked meaning kind grid.now axis setting.basis (runs ordered.now)) }
@@ -131,6 +132,7 @@ fn asked<F: Fn(Ask) -> Result<u32, LayoutFault>>(
     basis: Basis,
     measure: &F,
 ) -> Result<u32, LayoutFault>
+    requires grid { IsGridStyle grid.now }
     requires callable { (ask : Ask) → ask.child < length children.now → F.pre measure.now ask }
     requires styles { All IsBoxStyle children.now }
     requires count { length children.now ≤ 65536 }
@@ -152,8 +154,8 @@ fn asked<F: Fn(Ask) -> Result<u32, LayoutFault>>(
 /// 65,535.
 ///
 /// A layer asks for its left and its right edge, and for as many columns as the widths of its other
-/// children come to in the area between them. `measure` is asked once for each of these widths that
-/// is that of the content.
+/// children come to in the area between them, or the columns of a grid. `measure` is asked once for
+/// each of these widths that is that of the content.
 ///
 /// It is refused exactly where a fraction on the way is, or a measure, and where there is no memory.
 /// The conditions are those of [`crate::arrange`].
@@ -166,7 +168,7 @@ pub fn wide_of<F: Fn(Ask) -> Result<u32, LayoutFault>>(
     screen: Size,
     measure: &F,
 ) -> Result<u32, LayoutFault>
-    requires in_line { IsInLine kind }
+    requires grid { IsGridStyle grid.now }
     requires callable { (ask : Ask) → ask.child < length children.now → F.pre measure.now ask }
     requires styles { All IsBoxStyle children.now }
     requires count { length children.now ≤ 65536 }
@@ -181,8 +183,8 @@ pub fn wide_of<F: Fn(Ask) -> Result<u32, LayoutFault>>(
 /// The height that a container asks for at a width: the greatest of what its layers ask for, at most
 /// 65,535.
 ///
-/// A layer asks for its top and its bottom edge, and for as many rows as its other children come to
-/// in a viewport of that width and the height of the area.
+/// A layer asks for its top and its bottom edge, and for as many rows as its other children, or the
+/// tracks of a grid, come to in a viewport of that width and the height of the area.
 ///
 /// It is refused exactly where a fraction on the way is, or a measure: the fault has the direction
 /// of the first such step, in the order of [`crate::arrange`]. Else it fails only where there is no
@@ -197,7 +199,7 @@ pub fn tall_of<F: Fn(Ask) -> Result<u32, LayoutFault>>(
     screen: Size,
     measure: &F,
 ) -> Result<u32, LayoutFault>
-    requires in_line { IsInLine kind }
+    requires grid { IsGridStyle grid.now }
     requires callable { (ask : Ask) → ask.child < length children.now → F.pre measure.now ask }
     requires styles { All IsBoxStyle children.now }
     requires count { length children.now ≤ 65536 }

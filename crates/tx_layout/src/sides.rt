@@ -140,8 +140,8 @@ fn side_of(span: Span) -> Side
     }
 }
 
-// A child with its cells in one direction.
-fn with_side(child: &Child, axis: Axis, side: Side, count: u32) -> Child
+/// A child with its cells in one direction.
+pub fn with_side(child: &Child, axis: Axis, side: Side, count: u32) -> Child
     requires child { IsChild count child.now }
     requires side { IsSide side }
     ensures exact { result ≡ with_side axis side child.now }
@@ -159,9 +159,9 @@ fn with_side(child: &Child, axis: Axis, side: Side, count: u32) -> Child
     }
 }
 
-// A child by itself, with its cells in one direction.
+/// A child by itself, with its cells in one direction.
 #[tactic(auto, unfolding(crate::specs::Sides::across_one))]
-fn across_one<F: Fn(Ask) -> Result<u32, LayoutFault>>(
+pub fn across_one<F: Fn(Ask) -> Result<u32, LayoutFault>>(
     child: &Child,
     axis: Axis,
     basis: Basis,

@@ -1,4 +1,4 @@
-use Rattle.std.proofs.Common.{◌≡◌, ◌≤◌, ◌^◌, length, ℕ, All, Option}
+use Rattle.std.proofs.Common.{◌≡◌, ◌≤◌, length, ℕ, All, Option}
 use Rattle.tx_layout.specs.declared.styles.Ask.{Ask}
 use Rattle.tx_layout.specs.Ask.{Means}
 use Rattle.tx_layout.specs.Arrangement.{arranged_layer, together, seen}
@@ -11,7 +11,7 @@ invariant-loop-rest g l = record {
   done : (meaning : Ask → Option ℕ) → Means (goal.F-post g l.measure) l.setting.count meaning
       → Reached (arranged_layer meaning l.kind l.grid l.align l.setting.basis) (together l.setting.count) (runs l.ordered) (runs l.rest) (seen l.laid);
   children : All (IsChild l.setting.count) l.rest;
-  count : length l.rest ≤ 2 ^ 24;
+  count : length l.rest ≤ 65536;
   places : length l.laid.placed.items ≡ l.setting.count;
 }
 

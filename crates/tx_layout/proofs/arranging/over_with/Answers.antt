@@ -1,4 +1,3 @@
-use Rattle.std.proofs.Common.{◌∙◌}
 use Rattle.tx_layout.proofs.Greatest.{over_push}
 use Rattle.tx_layout.proofs.arranging.over_with.Goals as goal
 

@@ -1,4 +1,4 @@
-use Rattle.std.proofs.Common.{◌<◌, length, arith, ◌∙◌, sym, ap, List, rules, ◌++◌, Some}
+use Rattle.std.proofs.Common.{◌<◌, length, arith, ◌∙◌, ap, rules, Some}
 use Rattle.std.specs.Prelude.{slice_set}
 use Rattle.std.proofs.lemmas.List.{length-set}
 use Rattle.tx_layout.specs.declared.children.Child.{Child}

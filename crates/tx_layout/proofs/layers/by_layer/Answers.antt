@@ -1,7 +1,6 @@
-use Rattle.std.proofs.Common.{rules, length, subst, ◌≡◌, ◌∙◌, ap, List}
+use Rattle.std.proofs.Common.{rules, length, ◌∙◌, ap}
 use Rattle.std.proofs.lemmas.List.Sorted.{All-permutation, answers_always}
-use Rattle.tx_layout.specs.declared.children.Child.{Child}
-use Rattle.tx_layout.specs.Children.{IsChild, layer_of, layers, numbered, runs}
+use Rattle.tx_layout.specs.Children.{IsChild, layer_of, layers}
 use Rattle.tx_layout.proofs.Sorted.{runs_are_layers}
 use Rattle.tx_layout.proofs.layers.by_layer.Goals as goal
 

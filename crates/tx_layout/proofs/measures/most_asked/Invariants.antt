@@ -1,4 +1,4 @@
-use Rattle.std.proofs.Common.{◌≡◌, ◌≤◌, ◌<◌, ◌^◌, length, ℕ, All, Option}
+use Rattle.std.proofs.Common.{◌≤◌, length, ℕ, All, Option}
 use Rattle.tx_layout.specs.declared.styles.Ask.{Ask}
 use Rattle.tx_layout.specs.Ask.{Means}
 use Rattle.tx_layout.specs.Arrangement.{asked_layer}
@@ -12,7 +12,7 @@ invariant-loop-rest g l = record {
   done : (meaning : Ask → Option ℕ) → Means (goal.F-post g l.measure) l.setting.count meaning
       → Reached (asked_layer meaning l.kind l.grid l.axis l.setting.basis) greatest (runs l.ordered) (runs l.rest) l.most;
   children : All (IsChild l.setting.count) l.rest;
-  count : length l.rest ≤ 2 ^ 24;
+  count : length l.rest ≤ 65536;
 }
 
 abbrev pub decreases-loop-rest : goal.decreases-loop-rest

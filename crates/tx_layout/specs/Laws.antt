@@ -1,0 +1,94 @@
+-- What holds of arrangements and measures, in an author's words.
+use Rattle.std.specs.Prelude.{ℕ, ◌<◌, ◌≡◌, pos, Option, Some, List, length, All, slice_index_or, Result, Ok}
+use Rattle.tx_frac.specs.Ratio.{Ratio}
+use Rattle.tx_geom.specs.Along.{side}
+use Rattle.tx_geom.specs.Region.{Holds}
+use Rattle.tx_geom.specs.declared.places.Offset.{Offset}
+use Rattle.tx_geom.specs.declared.choices.Axis.{Axis}
+use Rattle.tx_geom.specs.declared.choices.Axis.TheVariants.{Width, Height}
+use Rattle.tx_box.specs.Axis.{axis_parts, last_of}
+use Rattle.tx_box.specs.Item.{IsSized}
+use Rattle.tx_box.specs.Laws.{HasFractions, SharesRoom}
+use Rattle.tx_box.specs.declared.items.Basis.{Basis}
+use Rattle.tx_box.specs.declared.items.Item.{Item}
+use Rattle.tx_box.specs.declared.parts.Part.{Part}
+use Rattle.tx_layout.specs.declared.children.Child.{Child}
+use Rattle.tx_layout.specs.Sides.{across, areas, gaps, measured}
+use Rattle.tx_layout.specs.Line.{Flow, line_of}
+use Rattle.tx_layout.specs.Steps.{each_of}
+use Rattle.tx_geom.specs.declared.choices.AlignX.{AlignX}
+use Rattle.tx_geom.specs.declared.choices.AlignY.{AlignY}
+use Rattle.tx_geom.specs.declared.choices.LayoutKind.{LayoutKind}
+use Rattle.tx_geom.specs.declared.places.Size.{Size}
+use Rattle.tx_layout.specs.declared.styles.Ask.{Ask}
+use Rattle.tx_layout.specs.declared.styles.BoxStyle.{BoxStyle}
+use Rattle.tx_layout.specs.declared.styles.GridStyle.{GridStyle}
+use Rattle.tx_layout.specs.Arrangement.{flow_region, arranged, wide, tall}
+
+-- ---- children that follow each other
+
+-- The children of a flow as they are when the axis along them is laid out: in a row as they come, in a column with their
+-- widths.
+abbrev pub at_axis : (Ask → Option ℕ) → Axis → Basis → List Child → Result (List Child) Axis
+at_axis meaning Width basis cs = Ok cs
+at_axis meaning Height basis cs = across meaning Width basis cs
+
+-- the boxes of these children along a direction, of fractions in lowest terms
+pub record HasBoxes (meaning : Ask → Option ℕ) (main : Axis) (basis : Basis) (cs : List Child) : Type 0 where
+  pub ready : List Child
+  pub at_axis : at_axis meaning main basis cs ≡ Ok ready
+  pub items : List Item
+  pub boxes : each_of (measured meaning main basis.area) ready ≡ Ok items
+  pub sized : All IsSized items
+  pub fractions : All HasFractions items
+
+-- some share among them isn't settled in the last round and is greater than 0, and what is left there isn't below 0
+pub record SharesFlow (main : Axis) (basis : Basis) (ready : List Child) (items : List Item) : Type 0 where
+  pub parts : List Part
+  pub last : List Part
+  pub left : Ratio
+  pub at_start : axis_parts items main basis (areas basis.area ready) ≡ Some parts
+  pub at_end : last_of (side main basis.area) (gaps main ready) parts ≡ Some (left, last)
+  pub shares : SharesRoom left last
+
+-- how far a flow goes in a direction
+abbrev pub extent_in : Axis → Flow → ℕ
+extent_in Width flow = flow.wide
+extent_in Height flow = flow.tall
+
+-- Where room is shared, the last child with its last margin ends where the room does: in a column at its height, in a row
+-- at its width.
+abbrev pub FillsRoom : Type 0
+FillsRoom =
+    (meaning : Ask → Option ℕ) (main : Axis) (basis : Basis) (cs : List Child) (flow : Flow)
+    → line_of meaning (Some main) basis cs ≡ Ok flow → (boxes : HasBoxes meaning main basis cs) → SharesFlow main basis boxes.ready boxes.items
+    → extent_in main flow ≡ side main basis.area
+
+-- a child that isn't moved from its place
+abbrev pub HasNoOffset : Child → Type 0
+HasNoOffset c = c.style.offset ≡ record { x = pos 0; y = pos 0 }
+
+-- No two children of a column or a row share a cell, where they are not moved.
+abbrev pub NoneShareCells : Type 0
+NoneShareCells =
+    (meaning : Ask → Option ℕ) (main : Axis) (basis : Basis) (cs : List Child) (flow : Flow)
+    → line_of meaning (Some main) basis cs ≡ Ok flow → HasBoxes meaning main basis cs
+    → (left top i j : ℕ) (d : Child) → i < j → j < length flow.children
+    → HasNoOffset (slice_index_or flow.children i d) → HasNoOffset (slice_index_or flow.children j d)
+    → (p : Offset) → Holds (flow_region left top (slice_index_or flow.children i d)) p → Holds (flow_region left top (slice_index_or flow.children j d)) p → ⊥
+
+-- ---- measures
+
+-- two meanings that are the same for each ask of one of so many children
+abbrev pub Agree : ℕ → (Ask → Option ℕ) → (Ask → Option ℕ) → Type 0
+Agree count m n = (ask : Ask) → ask.child < count → m ask ≡ n ask
+
+-- Nothing but the answers for the children of a container goes into its arrangement and its measures: two meanings that
+-- agree there give the same.
+pub record MeaningsDecide : Type 0 where
+  pub arrangement : (m n : Ask → Option ℕ) (kind : LayoutKind) (grid : GridStyle) (align : AlignX × AlignY) (styles : List BoxStyle) (area screen : Size)
+      → Agree (length styles) m n → arranged m kind grid align styles area screen ≡ arranged n kind grid align styles area screen
+  pub width : (m n : Ask → Option ℕ) (kind : LayoutKind) (grid : GridStyle) (styles : List BoxStyle) (area screen : Size)
+      → Agree (length styles) m n → wide m kind grid styles area screen ≡ wide n kind grid styles area screen
+  pub height : (m n : Ask → Option ℕ) (kind : LayoutKind) (grid : GridStyle) (styles : List BoxStyle) (width : ℕ) (area screen : Size)
+      → Agree (length styles) m n → tall m kind grid styles width area screen ≡ tall n kind grid styles width area screen
