@@ -1,0 +1,5 @@
+pub mod Bars
+pub mod Scroll
+pub mod Clip
+pub mod Ticks
+pub mod Laws
