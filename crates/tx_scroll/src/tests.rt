@@ -1,0 +1,374 @@
+ghost use Rattle.std.specs.Prelude.{◌≡◌, ⊤, ◌≤◌, length, All, IfOk};
+ghost use Rattle.tx_box.specs.Item.{NotNegative};
+ghost use Rattle.tx_geom.specs.Region.{IsNearPlace, corner};
+ghost use Rattle.tx_layout.specs.Style.{IsBoxStyle};
+ghost use Rattle.tx_layout.specs.Arrangement.{IsInLine};
+
+use crate::{Barred, bars, clamp_scroll, clip};
+use std::alloc::Global;
+use std::test::Fail;
+use tx_expect::{each_line, expect};
+use tx_frac::{Frac, Scalar, Unit};
+use tx_geom::{
+    AlignX, AlignY, Axis, BoxSizing, Edge, LayoutKind, Offset, Overflow, Region, Size, Spacing,
+};
+use tx_io::{Counted, Steps};
+use tx_layout::{Ask, BoxStyle, GridStyle, LayoutFault, tall_of, wide_of};
+use tx_text::Items;
+
+const SCREEN: Size = Size {
+    width: 80,
+    height: 24,
+};
+
+const NO_ROOM: Spacing = Spacing {
+    top: 0,
+    right: 0,
+    bottom: 0,
+    left: 0,
+};
+
+fn number(word: &str) -> Result<u32, Fail> {
+    Ok(word.parse::<u32>().ok().ok_or("a number")?)
+}
+
+// A number of cells, `f` for `1fr`, `a` for `auto`.
+fn scalar(word: &str) -> Result<Scalar, Fail>
+    ensures { IfOk result (λ s. NotNegative s.value) }
+{
+    let (count, unit) = match word {
+        "f" => (1, Unit::Fr),
+        "a" => (1, Unit::Auto),
+        _ => (number(word)?, Unit::Cells),
+    };
+    Ok(Scalar {
+        value: Frac::whole(count as i64),
+        unit,
+    })
+}
+
+fn boxed(width: Scalar, height: Scalar, dock: Option<Edge>) -> BoxStyle
+    requires width { NotNegative width.value }
+    requires height { NotNegative height.value }
+    ensures { IsBoxStyle result }
+{
+    BoxStyle {
+        width,
+        height,
+        least: [None, None],
+        most: [None, None],
+        margin: NO_ROOM,
+        gutter: NO_ROOM,
+        sizing: BoxSizing::BorderBox,
+        dock,
+        layer: 0,
+        offset: Offset { x: 0, y: 0 },
+        column_span: 1,
+        row_span: 1,
+    }
+}
+
+// A width and a height with a comma between them, and `left:` in front where the child is docked there.
+fn child(word: &str) -> Result<BoxStyle, Fail>
+    ensures { IfOk result IsBoxStyle }
+{
+    let (dock, sizes) = match word.strip_prefix("left:") {
+        Some(sizes) => (Some(Edge::Left), sizes),
+        None => (None, word),
+    };
+    let (width, height) = sizes.split_once(',').ok_or("two sizes")?;
+    Ok(boxed(scalar(width)?, scalar(height)?, dock))
+}
+
+fn overflow(letter: &str) -> Result<Overflow, Fail> {
+    match letter {
+        "a" => Ok(Overflow::Auto),
+        "h" => Ok(Overflow::Hidden),
+        "s" => Ok(Overflow::Scroll),
+        _ => Err(Fail::from("an overflow")),
+    }
+}
+
+// What both axes do with content past them.
+fn overflows(letters: &str) -> Result<(Overflow, Overflow), Fail> {
+    match letters.split_at_checked(1) {
+        Some((x, y)) => Ok((overflow(x)?, overflow(y)?)),
+        None => Err(Fail::from("two letters")),
+    }
+}
+
+fn kind(letter: &str) -> LayoutKind
+    ensures { IsInLine result }
+{
+    match letter {
+        "h" => LayoutKind::Horizontal,
+        _ => LayoutKind::Vertical,
+    }
+}
+
+// A width and a height with an `x` between them, or `-` for none.
+fn area(word: &str) -> Result<Option<Size>, Fail> {
+    if word == "-" {
+        return Ok(None);
+    }
+    let (width, height) = word.split_once('x').ok_or("an area")?;
+    Ok(Some(Size {
+        width: number(width)?,
+        height: number(height)?,
+    }))
+}
+
+fn grid(alloc: Global) -> GridStyle {
+    GridStyle {
+        columns: 1,
+        rows: None,
+        column_tracks: Items::of(Vec::new(alloc)),
+        row_tracks: Items::of(Vec::new(alloc)),
+        gutter_vertical: 0,
+        gutter_horizontal: 0,
+    }
+}
+
+// The bars and the regions that a container shows.
+fn barred_text(alloc: Global, barred: &Barred, ticks: u64) -> Result<String, Fail> {
+    let viewport = barred.viewport;
+    let over = barred.arrangement.over;
+    let mut text = format!(in alloc;
+        "{}{} {} {} over {} {}, {}:",
+        barred.across as u8,
+        barred.down as u8,
+        viewport.width,
+        viewport.height,
+        over.width,
+        over.height,
+        ticks
+    )?;
+    for region in barred.arrangement.placed.as_slice() {
+        if let Some(region) = region {
+            let place = format!(in alloc;
+                " {} {} {} {};",
+                region.x, region.y, region.width, region.height
+            )?;
+            text.push_str(place.as_str())?;
+        }
+    }
+    Ok(text)
+}
+
+// What a container of 25 columns and 200 cells in each child comes to. No child is measured in an area
+// that is refused.
+fn shown(
+    alloc: Global,
+    axes: (Overflow, Overflow),
+    kind: LayoutKind,
+    content: Size,
+    refused: Option<Size>,
+    children: &[BoxStyle],
+) -> Result<String, Fail>
+    requires kind { IsInLine kind }
+    requires styles { All IsBoxStyle children.now }
+    requires count { length children.now ≤ 65536 }
+{
+    let measure = |ask: Ask| -> Result<u32, LayoutFault>
+        requires { ⊤ }
+        ensures { ⊤ }
+    {
+        if refused == Some(ask.area) {
+            return Err(LayoutFault::Fraction { axis: Axis::Width });
+        }
+        match ask.width {
+            None => Ok(25),
+            Some(width) => Ok(200_u32.div_ceil(width.max(1))),
+        }
+    };
+    let mut steps = Steps {
+        ledger: Counted::default(),
+    };
+    let grid = grid(alloc);
+    let start = (AlignX::Left, AlignY::Top);
+    let found = bars(
+        alloc, axes.0, axes.1, kind, &grid, start, children, content, SCREEN, &measure, &mut steps,
+    );
+    let ticks = steps.ledger.arranged;
+    match found {
+        Ok(barred) => barred_text(alloc, &barred, ticks),
+        Err(LayoutFault::Fraction { axis: Axis::Width }) => {
+            Ok(format!(in alloc; "refused width, {ticks}")?)
+        }
+        Err(LayoutFault::Fraction { axis: Axis::Height }) => {
+            Ok(format!(in alloc; "refused height, {ticks}")?)
+        }
+        Err(LayoutFault::NoMemory) => Err(Fail::from("no memory")),
+    }
+}
+
+// A container from a line: what its axes do, `v` or `h` for its layout, its columns and rows, an area in
+// which measures are refused, and one or two children.
+fn answer(alloc: Global, given: &str) -> Result<String, Fail> {
+    let mut words = given.split(' ');
+    let axes = overflows(words.next().ok_or("axes")?)?;
+    let kind = kind(words.next().ok_or("a layout")?);
+    let content = Size {
+        width: number(words.next().ok_or("columns")?)?,
+        height: number(words.next().ok_or("rows")?)?,
+    };
+    let refused = area(words.next().ok_or("an area")?)?;
+    let first = child(words.next().ok_or("a child")?)?;
+    match words.next() {
+        None => shown(alloc, axes, kind, content, refused, &[first]),
+        Some(word) => shown(alloc, axes, kind, content, refused, &[first, child(word)?]),
+    }
+}
+
+#[test]
+fn auto_axes_have_bars_where_needed(rt: HostRuntime) -> Result<(), Fail> {
+    let alloc = rt.alloc();
+    each_line(
+        "aa v 20 10 - f,12 => 01 18 10 over 0 2, 2: 0 0 18 12;\n\
+         aa v 20 10 - 20,10 => 00 20 10 over 0 0, 1: 0 0 20 10;\n\
+         aa v 20 10 - 18,12 => 01 18 10 over 0 2, 2: 0 0 18 12;\n\
+         aa v 20 10 - 19,12 => 11 18 9 over 1 3, 4: 0 0 19 12;\n\
+         aa v 20 10 - 21,9 => 10 20 9 over 1 0, 3: 0 0 21 9;\n\
+         aa v 20 10 - 21,10 => 11 18 9 over 3 1, 4: 0 0 21 10;\n\
+         aa v 20 10 - 30,30 => 11 18 9 over 12 21, 4: 0 0 30 30;\n\
+         aa h 20 10 - 9,f 12,f => 10 20 9 over 1 0, 3: 0 0 9 9; 9 0 12 9;\n\
+         aa h 20 10 - f,a => 00 20 10 over 0 0, 1: 0 0 20 10;\n\
+         aa v 20 10 - f,a => 00 20 10 over 0 0, 1: 0 0 20 10;\n\
+         aa v 19 10 - f,a => 01 17 10 over 0 2, 2: 0 0 17 12;\n\
+         aa v 20 10 - 5,6 5,5 => 01 18 10 over 0 1, 2: 0 0 5 6; 0 6 5 5;\n\
+         aa v 20 10 - left:25,30 f,f => 00 20 10 over 0 0, 1: 0 0 25 30; 25 0 0 10;\n\
+         aa v 20 10 - left:5,30 16,11 => 11 18 9 over 3 2, 4: 0 0 5 30; 5 0 16 11;",
+        |given| answer(alloc, given),
+    )
+}
+
+#[test]
+fn hidden_and_scroll_axes_are_left_as_they_are(rt: HostRuntime) -> Result<(), Fail> {
+    let alloc = rt.alloc();
+    each_line(
+        "ah v 20 10 - 21,10 => 10 20 9 over 1 1, 2: 0 0 21 10;\n\
+         ah v 20 10 - 20,12 => 00 20 10 over 0 2, 1: 0 0 20 12;\n\
+         ah v 20 10 - 30,12 => 10 20 9 over 10 3, 2: 0 0 30 12;\n\
+         as v 20 10 - 18,10 => 01 18 10 over 0 0, 1: 0 0 18 10;\n\
+         as v 20 10 - 19,10 => 11 18 9 over 1 1, 2: 0 0 19 10;\n\
+         as v 20 10 - 30,30 => 11 18 9 over 12 21, 2: 0 0 30 30;\n\
+         ha v 20 10 - 30,10 => 00 20 10 over 10 0, 1: 0 0 30 10;\n\
+         ha v 20 10 - 30,11 => 01 18 10 over 12 1, 2: 0 0 30 11;\n\
+         ha v 20 10 - f,a => 00 20 10 over 0 0, 1: 0 0 20 10;\n\
+         hh v 20 10 - 30,30 => 00 20 10 over 10 20, 1: 0 0 30 30;\n\
+         hs v 20 10 - 30,30 => 01 18 10 over 12 20, 1: 0 0 30 30;\n\
+         hs v 20 10 - 1,1 => 01 18 10 over 0 0, 1: 0 0 1 1;\n\
+         sa v 20 10 - 20,9 => 10 20 9 over 0 0, 1: 0 0 20 9;\n\
+         sa v 20 10 - 20,10 => 11 18 9 over 2 1, 2: 0 0 20 10;\n\
+         sh v 20 10 - 30,30 => 10 20 9 over 10 21, 1: 0 0 30 30;\n\
+         sh v 20 10 - 1,1 => 10 20 9 over 0 0, 1: 0 0 1 1;\n\
+         ss v 20 10 - 1,1 => 11 18 9 over 0 0, 1: 0 0 1 1;\n\
+         ss v 20 10 - f,f => 11 18 9 over 0 0, 1: 0 0 18 9;",
+        |given| answer(alloc, given),
+    )
+}
+
+#[test]
+fn small_areas_have_bars_too(rt: HostRuntime) -> Result<(), Fail> {
+    let alloc = rt.alloc();
+    each_line(
+        "aa v 1 10 - 1,12 => 11 0 9 over 1 3, 4: 0 0 1 12;\n\
+         aa v 1 10 - f,12 => 01 0 10 over 0 2, 2: 0 0 0 12;\n\
+         ss v 1 10 - f,3 => 11 0 9 over 0 0, 1: 0 0 0 3;\n\
+         aa v 20 1 - 21,1 => 11 18 0 over 3 1, 4: 0 0 21 1;\n\
+         aa v 20 1 - f,2 => 01 18 1 over 0 1, 2: 0 0 18 2;\n\
+         ss v 20 1 - f,2 => 11 18 0 over 0 2, 1: 0 0 18 2;\n\
+         aa v 0 0 - 1,1 => 11 0 0 over 1 1, 4: 0 0 1 1;\n\
+         aa v 0 0 - f,f => 00 0 0 over 0 0, 1: 0 0 0 0;\n\
+         ss v 0 0 - 2,2 => 11 0 0 over 2 2, 1: 0 0 2 2;",
+        |given| answer(alloc, given),
+    )
+}
+
+#[test]
+fn a_refused_trial_ends_the_search(rt: HostRuntime) -> Result<(), Fail> {
+    let alloc = rt.alloc();
+    each_line(
+        "aa v 20 10 20x10 a,a => refused width, 1\n\
+         aa v 20 10 18x10 a,1 => refused width, 2\n\
+         aa v 20 10 20x9 a,9 => refused width, 3\n\
+         aa v 20 10 18x9 a,12 => refused width, 4\n\
+         aa v 20 10 18x10 19,a => refused height, 2\n\
+         aa v 30 5 28x5 f,a => refused height, 2\n\
+         sa v 30 5 28x4 f,a => refused height, 2\n\
+         as v 20 10 18x9 a,1 => refused width, 2\n\
+         hs v 20 10 18x10 f,a => refused height, 1\n\
+         ha v 30 5 28x5 f,a => refused height, 2",
+        |given| answer(alloc, given),
+    )
+}
+
+#[test]
+fn a_container_asks_for_its_content(rt: HostRuntime) -> Result<(), Fail> {
+    let alloc = rt.alloc();
+    let measure = |_ask: Ask| -> Result<u32, LayoutFault>
+        requires { ⊤ }
+        ensures { ⊤ }
+    { Ok(7) };
+    let children = [child("f,12")?];
+    let area = Size {
+        width: 20,
+        height: 10,
+    };
+    let grid = grid(alloc);
+    let vertical = kind("v");
+    let wide = wide_of(alloc, vertical, &grid, &children, area, SCREEN, &measure)?;
+    let tall = tall_of(
+        alloc, vertical, &grid, &children, 20, area, SCREEN, &measure,
+    )?;
+    expect(wide == 20 && tall == 12, "20 and 12")
+}
+
+#[test]
+fn scrolls_are_kept_in_range(rt: HostRuntime) {
+    let over = Size {
+        width: 5,
+        height: 3,
+    };
+    for (scroll, x, y, wanted) in [
+        ((0, 0), Overflow::Auto, Overflow::Auto, (0, 0)),
+        ((5, 3), Overflow::Auto, Overflow::Scroll, (5, 3)),
+        ((6, 4), Overflow::Scroll, Overflow::Auto, (5, 3)),
+        ((u32::MAX, 2), Overflow::Auto, Overflow::Auto, (5, 2)),
+        ((4, 2), Overflow::Hidden, Overflow::Auto, (0, 2)),
+        ((4, 2), Overflow::Scroll, Overflow::Hidden, (4, 0)),
+        ((9, 9), Overflow::Hidden, Overflow::Hidden, (0, 0)),
+    ] {
+        assert_eq!(rt; clamp_scroll(scroll, over, x, y), wanted, "{scroll:?}");
+    }
+}
+
+fn region((x, y, width, height): (i32, i32, u32, u32)) -> Region
+    ensures { IsNearPlace (corner result) }
+{
+    Region {
+        x: x as i64,
+        y: y as i64,
+        width,
+        height,
+    }
+}
+
+#[test]
+fn clips_keep_the_cells_in_both(rt: HostRuntime) {
+    let by = region((0, 0, 20, 10));
+    for (given, wanted) in [
+        ((2, 3, 4, 5), (2, 3, 4, 5)),
+        ((-2, -3, 40, 50), (0, 0, 20, 10)),
+        ((-2, 8, 5, 5), (0, 8, 3, 2)),
+        ((18, 9, 5, 5), (18, 9, 2, 1)),
+        ((20, 0, 5, 5), (20, 0, 0, 0)),
+        ((-5, 2, 5, 5), (-5, 2, 0, 0)),
+        ((3, 10, 5, 5), (3, 10, 0, 0)),
+        ((3, 3, 0, 5), (3, 3, 0, 0)),
+        ((-5, 2_000_000_000, 3, 3), (-5, 2_000_000_000, 0, 0)),
+        ((-7, -9, u32::MAX, u32::MAX), (0, 0, 20, 10)),
+    ] {
+        assert_eq!(rt; clip(region(given), by), region(wanted), "{given:?}");
+    }
+}
