@@ -1,5 +1,5 @@
 -- What comes of one trial, and of trials one after another.
-use Rattle.std.proofs.Common.{◌≡◌, ◌⊎◌, inl, inr, ℕ, suc, ◌≤◌, ◌==◌, ◌&&◌, ◌||◌, Bool, true, false, refl, ap, sym, ◌∙◌, subst, List, [], ◌∷◌, Result, Ok, Err, length, arith, if◌then◌else◌}
+use Rattle.std.proofs.Common.{◌≡◌, ◌⊎◌, inl, inr, ℕ, suc, ◌≤◌, ◌==◌, ◌&&◌, Bool, true, false, refl, ap, sym, ◌∙◌, subst, List, [], ◌∷◌, Result, Ok, Err, length, arith, if◌then◌else◌}
 use Rattle.std.specs.Prelude.{◌↔◌}
 use Rattle.std.proofs.lemmas.Bool.{and_parts, eq-eqb, eqb-true, false≢true}
 use Rattle.tx_read.specs.Reading.{◌>>=◌}
@@ -10,7 +10,7 @@ use Rattle.tx_geom.specs.declared.places.Size.{Size}
 use Rattle.tx_layout.specs.declared.styles.Arrangement.{Arrangement}
 use Rattle.tx_scroll.specs.declared.trials.Trial.{Trial}
 use Rattle.tx_scroll.specs.declared.trials.Barred.{Barred}
-use Rattle.tx_scroll.specs.Bars.{no_bar, vertical_bar, horizontal_bar, both_bars, allows, is_allowed, trials, viewport, fits_along, fits, with_bars, outcome, ends_by, ends, up_to, last_of, made_of, tried_in_order, made, barred_by}
+use Rattle.tx_scroll.specs.Bars.{no_bar, vertical_bar, horizontal_bar, both_bars, allows, is_allowed, viewport, fits_along, fits, with_bars, outcome, ends_by, ends, up_to, last_of, made_of, tried_in_order, made, barred_by}
 use Rattle.tx_scroll.specs.Laws.{Arranges, Fits, bars_of, IsBeside, HiddenHasNone, ScrollHasOne, BothAuto, IsFew}
 
 -- ---- one trial

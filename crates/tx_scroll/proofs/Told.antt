@@ -1,5 +1,5 @@
 -- Ticks of trials one after another.
-use Rattle.std.proofs.Common.{◌≡◌, ℕ, ◌≤◌, suc, List, [], ◌∷◌, replicate, refl, sym, ap, subst, arith, Result, Ok, Err}
+use Rattle.std.proofs.Common.{◌≡◌, ℕ, suc, [], ◌∷◌, sym, subst, arith, Result, Ok, Err}
 use Rattle.std.specs.List.{FoldsTo}
 use Rattle.tx_io.specs.declared.steps.Tick.{Tick}
 use Rattle.tx_io.specs.declared.steps.Tick.TheVariants.{Arranged}

@@ -343,7 +343,7 @@ fn scrolls_are_kept_in_range(rt: HostRuntime) {
     }
 }
 
-fn region((x, y, width, height): (i32, i32, u32, u32)) -> Region
+fn near_region(x: i32, y: i32, width: u32, height: u32) -> Region
     ensures { IsNearPlace (corner result) }
 {
     Region {
@@ -356,8 +356,8 @@ fn region((x, y, width, height): (i32, i32, u32, u32)) -> Region
 
 #[test]
 fn clips_keep_the_cells_in_both(rt: HostRuntime) {
-    let by = region((0, 0, 20, 10));
-    for (given, wanted) in [
+    let by = near_region(0, 0, 20, 10);
+    for ((x, y, width, height), (left, top, columns, rows)) in [
         ((2, 3, 4, 5), (2, 3, 4, 5)),
         ((-2, -3, 40, 50), (0, 0, 20, 10)),
         ((-2, 8, 5, 5), (0, 8, 3, 2)),
@@ -369,6 +369,8 @@ fn clips_keep_the_cells_in_both(rt: HostRuntime) {
         ((-5, 2_000_000_000, 3, 3), (-5, 2_000_000_000, 0, 0)),
         ((-7, -9, u32::MAX, u32::MAX), (0, 0, 20, 10)),
     ] {
-        assert_eq!(rt; clip(region(given), by), region(wanted), "{given:?}");
+        let wanted = near_region(left, top, columns, rows);
+        let clipped = clip(near_region(x, y, width, height), by);
+        assert_eq!(rt; clipped, wanted, "at {x} {y}");
     }
 }

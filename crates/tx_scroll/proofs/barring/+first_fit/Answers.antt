@@ -1,8 +1,5 @@
-use Rattle.std.proofs.Common.{◌≡◌, inl, inr, ◌∙◌, sym, length, suc, subst, arith}
-use Rattle.tx_read.specs.Answer.{Gives}
-use Rattle.tx_layout.specs.Ask.{told}
+use Rattle.std.proofs.Common.{◌≡◌, inl, inr, ◌∙◌, sym, length, suc, arith}
 use Rattle.tx_scroll.specs.Bars.{arranged_in}
-use Rattle.tx_scroll.specs.Ticks.{ToldBy, ToldOfAtMost}
 use Rattle.tx_scroll.proofs.InOrder.{made-one, goes-on}
 use Rattle.tx_scroll.proofs.Told.{few-next, told-by-next, told-one}
 use Rattle.tx_scroll.proofs.barring.+first_fit.Goals as goal
