@@ -108,7 +108,7 @@ abbrev pub made : (Size → Result Arrangement Axis) → Overflow → Overflow �
 made arrange x y content = made_of arrange x y content (trials x y)
 
 -- how the children of a container are arranged in a viewport
-abbrev pub arranged_in : (Ask → Option ℕ) → LayoutKind → GridStyle → (AlignX × AlignY) → List BoxStyle → Size → Size → Result Arrangement Axis
+unfoldable pub arranged_in : (Ask → Option ℕ) → LayoutKind → GridStyle → (AlignX × AlignY) → List BoxStyle → Size → Size → Result Arrangement Axis
 arranged_in meaning kind grid align children screen viewport = arranged meaning kind grid align children viewport screen
 
 -- the bars of a container with these children in this content area, on this screen

@@ -5,8 +5,7 @@ ghost use Rattle.std.specs.List.{FoldsTo};
 ghost use Rattle.tx_read.specs.Answer.{Gives};
 ghost use Rattle.tx_io.specs.declared.steps.Tick.TheVariants.{Arranged};
 ghost use Rattle.tx_layout.specs.Ask.{told, Means};
-ghost use Rattle.tx_layout.specs.Style.{IsBoxStyle};
-ghost use Rattle.tx_layout.specs.Arrangement.{IsInLine};
+ghost use Rattle.tx_layout.specs.Style.{IsBoxStyle, IsGridStyle};
 ghost use Rattle.tx_scroll.specs.Bars.{outcome, made_of, tried_in_order, made, arranged_in, barred};
 ghost use Rattle.tx_scroll.specs.Ticks.{ToldBy, ToldOfAtMost};
 
@@ -17,6 +16,7 @@ use tx_io::{Ledger, Steps};
 use tx_layout::{Ask, BoxStyle, GridStyle, LayoutFault, arrange};
 
 // One trial.
+#[tactic(auto, unfolding(crate::specs::Bars::arranged_in))]
 fn tried<F: Fn(Ask) -> Result<u32, LayoutFault>, L: Ledger>(
     alloc: Global,
     trial: Trial,
@@ -29,7 +29,7 @@ fn tried<F: Fn(Ask) -> Result<u32, LayoutFault>, L: Ledger>(
     measure: &F,
     steps: &mut Steps<L>,
 ) -> Result<Barred, LayoutFault>
-    requires in_line { IsInLine kind }
+    requires grid { IsGridStyle grid.now }
     requires callable { (ask : Ask) → ask.child < length children.now → F.pre measure.now ask }
     requires styles { All IsBoxStyle children.now }
     requires count { length children.now ≤ 65536 }
@@ -66,7 +66,7 @@ fn first_fit<F: Fn(Ask) -> Result<u32, LayoutFault>, L: Ledger>(
     steps: &mut Steps<L>,
 ) -> Result<Barred, LayoutFault>
     requires some { 0 < length trials.now }
-    requires in_line { IsInLine kind }
+    requires grid { IsGridStyle grid.now }
     requires callable { (ask : Ask) → ask.child < length children.now → F.pre measure.now ask }
     requires styles { All IsBoxStyle children.now }
     requires count { length children.now ≤ 65536 }
@@ -117,7 +117,7 @@ pub fn bars<F: Fn(Ask) -> Result<u32, LayoutFault>, L: Ledger>(
     measure: &F,
     steps: &mut Steps<L>,
 ) -> Result<Barred, LayoutFault>
-    requires in_line { IsInLine kind }
+    requires grid { IsGridStyle grid.now }
     requires callable { (ask : Ask) → ask.child < length children.now → F.pre measure.now ask }
     requires styles { All IsBoxStyle children.now }
     requires count { length children.now ≤ 65536 }

@@ -1,8 +1,7 @@
 ghost use Rattle.std.specs.Prelude.{◌≡◌, ⊤, ◌≤◌, length, All, IfOk};
 ghost use Rattle.tx_box.specs.Item.{NotNegative};
 ghost use Rattle.tx_geom.specs.Region.{IsNearPlace, corner};
-ghost use Rattle.tx_layout.specs.Style.{IsBoxStyle};
-ghost use Rattle.tx_layout.specs.Arrangement.{IsInLine};
+ghost use Rattle.tx_layout.specs.Style.{IsBoxStyle, IsGridStyle};
 
 use crate::{Barred, bars, clamp_scroll, clip};
 use std::alloc::Global;
@@ -97,9 +96,7 @@ fn overflows(letters: &str) -> Result<(Overflow, Overflow), Fail> {
     }
 }
 
-fn kind(letter: &str) -> LayoutKind
-    ensures { IsInLine result }
-{
+fn kind(letter: &str) -> LayoutKind {
     match letter {
         "h" => LayoutKind::Horizontal,
         _ => LayoutKind::Vertical,
@@ -118,7 +115,9 @@ fn area(word: &str) -> Result<Option<Size>, Fail> {
     }))
 }
 
-fn grid(alloc: Global) -> GridStyle {
+fn grid(alloc: Global) -> GridStyle
+    ensures { IsGridStyle result }
+{
     GridStyle {
         columns: 1,
         rows: None,
@@ -165,7 +164,6 @@ fn shown(
     refused: Option<Size>,
     children: &[BoxStyle],
 ) -> Result<String, Fail>
-    requires kind { IsInLine kind }
     requires styles { All IsBoxStyle children.now }
     requires count { length children.now ≤ 65536 }
 {
