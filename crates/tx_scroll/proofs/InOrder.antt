@@ -313,7 +313,7 @@ few-trials arrange Scroll Auto content = few_of (ends arrange Scroll Auto conten
 few-trials arrange Scroll Hidden content = few_of (ends arrange Scroll Hidden content) horizontal_bar [] (omega arith)
 few-trials arrange Scroll Scroll content = few_of (ends arrange Scroll Scroll content) both_bars [] (omega arith)
 
--- ---- the first of some trials, and those behind it
+-- ---- the first of some trials, and those after it
 
 ends_known : (arrange : Arranges) (x y : Overflow) (content : Size) (t : Trial) (b : Barred) → outcome arrange content t ≡ Ok b → ends arrange x y content t ≡ fits x y t b.arrangement.over
 ends_known arrange x y content t b is =
@@ -334,7 +334,7 @@ made-one arrange x y content ts t later b all is last =
     ∙ up_to_one (ends arrange x y content t) (ends arrange x y content) t later
     (elim last [ inl empty ↦ inl empty | inr fine ↦ inr (ends_known arrange x y content t b is ∙ fine) ])
 
--- what was behind a trial that neither is the last nor fits
+-- a trial that neither is the last nor fits: those after it count
 pub record GoesOn (arrange : Arranges) (x y : Overflow) (content : Size) (ts later : List Trial) : Type 0 where
   pub outcome : tried_in_order arrange x y content ts ≡ tried_in_order arrange x y content later
   pub count : length (made_of arrange x y content ts) ≡ suc (length (made_of arrange x y content later))

@@ -1,3 +1,3 @@
 mod InOrder
-mod Told
+mod Ticking
 mod Regions

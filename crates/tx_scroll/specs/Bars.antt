@@ -31,13 +31,13 @@ horizontal_bar = record { across = true; down = false }
 abbrev pub both_bars : Trial
 both_bars = record { across = true; down = true }
 
--- whether an overflow lets its axis have a bar, or have none
+-- whether an overflow lets its axis have a bar, or have none: a hidden axis never has one, and a scroll axis always has
 abbrev pub allows : Overflow → Bool → Bool
 allows Auto bar = true
 allows Hidden bar = not bar
 allows Scroll bar = bar
 
--- the bars of a trial are such that both overflows allow
+-- whether the overflows of both axes allow the bars of a trial
 abbrev pub is_allowed : Overflow → Overflow → Trial → Bool
 is_allowed x y trial = allows x trial.across && allows y trial.down
 
@@ -52,13 +52,13 @@ abbrev pub viewport : Size → Trial → Size
 viewport content trial =
     record { width = content.width - (if trial.down then 2 else 0); height = content.height - (if trial.across then 1 else 0) }
 
--- an axis that would get a bar where it needs one, and has none, needs none
+-- whether an axis has what it needs: one that is auto needs a bar where the children go over
 abbrev pub fits_along : Overflow → Bool → ℕ → Bool
 fits_along Auto bar over = bar || (over == 0)
 fits_along Hidden bar over = true
 fits_along Scroll bar over = true
 
--- in each auto axis without a bar nothing goes over
+-- whether the children go over in no auto axis without a bar
 abbrev pub fits : Overflow → Overflow → Trial → Size → Bool
 fits x y trial over = fits_along x trial.across over.width && fits_along y trial.down over.height
 
@@ -73,7 +73,7 @@ outcome arrange content trial = arrange (viewport content trial) >>= (λ arrange
 
 -- ---- one after another
 
--- behind a trial that is refused, or that fits, no further one is made
+-- after a trial that is refused, or that fits, no further one is made
 abbrev pub ends_by : Overflow → Overflow → Trial → Result Arrangement Axis → Bool
 ends_by x y trial (Ok arrangement) = fits x y trial arrangement.over
 ends_by x y trial (Err axis) = true
@@ -81,12 +81,12 @@ ends_by x y trial (Err axis) = true
 abbrev pub ends : (Size → Result Arrangement Axis) → Overflow → Overflow → Size → Trial → Bool
 ends arrange x y content trial = ends_by x y trial (arrange (viewport content trial))
 
--- trials up to the first one that is an end, or all of them
+-- trials up to the first one that is an end, with it, or all of them
 abbrev pub up_to : (Trial → Bool) → List Trial → List Trial
 up_to is_end [] = []
 up_to is_end (trial ∷ later) = trial ∷ (if is_end trial then [] else up_to is_end later)
 
--- the last of some trials, which come behind another one
+-- the last of some trials, which come after another one
 abbrev pub last_of : Trial → List Trial → Trial
 last_of before [] = before
 last_of before (trial ∷ later) = last_of trial later
@@ -95,7 +95,7 @@ last_of before (trial ∷ later) = last_of trial later
 abbrev pub made_of : (Size → Result Arrangement Axis) → Overflow → Overflow → Size → List Trial → List Trial
 made_of arrange x y content ts = up_to (ends arrange x y content) ts
 
--- what comes of them: that of the last one made, which is the first that is refused or fits, or else the last of all
+-- what comes of them: the outcome of the last one that is made, which is the first that is refused or fits, or else the last of all
 abbrev pub tried_in_order : (Size → Result Arrangement Axis) → Overflow → Overflow → Size → List Trial → Result Barred Axis
 tried_in_order arrange x y content ts = outcome arrange content (last_of no_bar (made_of arrange x y content ts))
 

@@ -1,4 +1,4 @@
--- What a ledger is told of arrangements.
+-- The ticks of arrangements that a ledger took.
 use Rattle.std.specs.Prelude.{ℕ, ◌≤◌, replicate, Result, Ok, Err}
 use Rattle.std.specs.List.{FoldsTo}
 use Rattle.tx_io.specs.declared.steps.Tick.{Tick}
@@ -6,19 +6,19 @@ use Rattle.tx_io.specs.declared.steps.Tick.TheVariants.{Arranged}
 use Rattle.tx_box.specs.declared.items.LayoutFault.{LayoutFault}
 use Rattle.tx_box.specs.declared.items.LayoutFault.TheVariants.{Fraction, NoMemory}
 
--- it was told of so many arrangements, and of nothing else
-abbrev pub ToldOf : {L : Type 0} → (L → Tick → L → Type 0) → ℕ → L → L → Type 0
-ToldOf ticked count before after = FoldsTo ticked before (replicate count Arranged) after
+-- a ledger took so many ticks of an arrangement, and no other one
+abbrev pub TicksTimes : {L : Type 0} → (L → Tick → L → Type 0) → ℕ → L → L → Type 0
+TicksTimes ticked count before after = FoldsTo ticked before (replicate count Arranged) after
 
--- it was told of one at least, at most of so many, and of nothing else
-pub record ToldOfAtMost {L : Type 0} (ticked : L → Tick → L → Type 0) (most : ℕ) (before after : L) : Type 0 where
+-- it took one at least, at most so many, and no other one
+pub record TicksAtMost {L : Type 0} (ticked : L → Tick → L → Type 0) (most : ℕ) (before after : L) : Type 0 where
   pub count : ℕ
   pub some : 1 ≤ count
   pub few : count ≤ most
-  pub told : ToldOf ticked count before after
+  pub ticks : TicksTimes ticked count before after
 
--- it was told of so many, or of fewer where memory ran out
-abbrev pub ToldBy : {L R : Type 0} → (L → Tick → L → Type 0) → Result R LayoutFault → ℕ → L → L → Type 0
-ToldBy ticked (Ok value) count before after = ToldOf ticked count before after
-ToldBy ticked (Err (Fraction axis)) count before after = ToldOf ticked count before after
-ToldBy ticked (Err NoMemory) count before after = ToldOfAtMost ticked count before after
+-- it took so many; where memory ran out, one at least and at most so many
+abbrev pub TicksBy : {L R : Type 0} → (L → Tick → L → Type 0) → Result R LayoutFault → ℕ → L → L → Type 0
+TicksBy ticked (Ok value) count before after = TicksTimes ticked count before after
+TicksBy ticked (Err (Fraction axis)) count before after = TicksTimes ticked count before after
+TicksBy ticked (Err NoMemory) count before after = TicksAtMost ticked count before after

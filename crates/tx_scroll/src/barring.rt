@@ -7,7 +7,7 @@ ghost use Rattle.tx_io.specs.declared.steps.Tick.TheVariants.{Arranged};
 ghost use Rattle.tx_layout.specs.Ask.{told, Means};
 ghost use Rattle.tx_layout.specs.Style.{IsBoxStyle, IsGridStyle};
 ghost use Rattle.tx_scroll.specs.Bars.{outcome, made_of, tried_in_order, made, arranged_in, barred};
-ghost use Rattle.tx_scroll.specs.Ticks.{ToldBy, ToldOfAtMost};
+ghost use Rattle.tx_scroll.specs.Ticks.{TicksBy, TicksAtMost};
 
 use crate::trials::{Barred, Trial, fits, trials, viewport};
 use std::alloc::Global;
@@ -15,7 +15,7 @@ use tx_geom::{AlignX, AlignY, LayoutKind, Overflow, Size};
 use tx_io::{Ledger, Steps};
 use tx_layout::{Ask, BoxStyle, GridStyle, LayoutFault, arrange};
 
-// One trial.
+// What comes of one trial.
 #[tactic(auto, unfolding(crate::specs::Bars::arranged_in))]
 fn tried<F: Fn(Ask) -> Result<u32, LayoutFault>, L: Ledger>(
     alloc: Global,
@@ -50,7 +50,7 @@ fn tried<F: Fn(Ask) -> Result<u32, LayoutFault>, L: Ledger>(
     })
 }
 
-// The first of these trials that fits, else the last.
+// What comes of trials in this order: of the first one that is refused or fits, else of the last.
 fn first_fit<F: Fn(Ask) -> Result<u32, LayoutFault>, L: Ledger>(
     alloc: Global,
     trials: &[Trial],
@@ -75,8 +75,8 @@ fn first_fit<F: Fn(Ask) -> Result<u32, LayoutFault>, L: Ledger>(
         → Gives (λ b. b) told result (tried_in_order (arranged_in meaning kind grid.now align children.now screen) x y content trials.now) }
     ensures ticked { (meaning : Ask → Option ℕ)
         → Means (F.post measure.now) (length children.now) meaning
-        → ToldBy L.ticked result (length (made_of (arranged_in meaning kind grid.now align children.now screen) x y content trials.now)) steps.old.ledger steps.new.ledger }
-    ensures few { ToldOfAtMost L.ticked (length trials.now) steps.old.ledger steps.new.ledger }
+        → TicksBy L.ticked result (length (made_of (arranged_in meaning kind grid.now align children.now screen) x y content trials.now)) steps.old.ledger steps.new.ledger }
+    ensures few { TicksAtMost L.ticked (length trials.now) steps.old.ledger steps.new.ledger }
 {
     let Some((trial, later)) = trials.split_first() else {
         unreachable!()
@@ -100,10 +100,10 @@ fn first_fit<F: Fn(Ask) -> Result<u32, LayoutFault>, L: Ledger>(
 /// one, both, without those that give a hidden axis a bar or a scroll axis none. The first trial
 /// counts in which the children go past the viewport in no auto axis without a bar, else the last.
 ///
-/// Each trial is one call of [`tx_layout::arrange`], and tells `steps` of one arrangement, also where
-/// it is refused. The call is refused exactly where a trial that is made is: the fault has the
-/// direction of the first refused step. Else it fails only where there is no memory. The conditions
-/// are those of [`tx_layout::arrange`].
+/// Each trial that is made is one call of [`tx_layout::arrange`] and one arrangement in `steps`, also
+/// one that is refused. No trial is made after one that fits or is refused. The call is refused
+/// exactly where a trial that is made is, with the direction of its first refused step. Else it fails
+/// only where there is no memory. The conditions are those of [`tx_layout::arrange`].
 pub fn bars<F: Fn(Ask) -> Result<u32, LayoutFault>, L: Ledger>(
     alloc: Global,
     x: Overflow,
@@ -126,8 +126,8 @@ pub fn bars<F: Fn(Ask) -> Result<u32, LayoutFault>, L: Ledger>(
         → Gives (λ b. b) told result (barred meaning x y kind grid.now align children.now content screen) }
     ensures ticked { (meaning : Ask → Option ℕ)
         → Means (F.post measure.now) (length children.now) meaning
-        → ToldBy L.ticked result (length (made (arranged_in meaning kind grid.now align children.now screen) x y content)) steps.old.ledger steps.new.ledger }
-    ensures few { ToldOfAtMost L.ticked 4 steps.old.ledger steps.new.ledger }
+        → TicksBy L.ticked result (length (made (arranged_in meaning kind grid.now align children.now screen) x y content)) steps.old.ledger steps.new.ledger }
+    ensures few { TicksAtMost L.ticked 4 steps.old.ledger steps.new.ledger }
 {
     first_fit(
         alloc,

@@ -154,8 +154,8 @@ fn barred_text(alloc: Global, barred: &Barred, ticks: u64) -> Result<String, Fai
     Ok(text)
 }
 
-// What a container of 25 columns and 200 cells in each child comes to. No child is measured in an area
-// that is refused.
+// What a container comes to. The content of each child is 25 columns wide, and takes 200 cells at any
+// width. No measure is answered in an area that is refused.
 fn shown(
     alloc: Global,
     axes: (Overflow, Overflow),

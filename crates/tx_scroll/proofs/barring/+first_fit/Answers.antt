@@ -1,14 +1,14 @@
 use Rattle.std.proofs.Common.{◌≡◌, inl, inr, ◌∙◌, sym, length, suc, arith}
 use Rattle.tx_scroll.specs.Bars.{arranged_in}
 use Rattle.tx_scroll.proofs.InOrder.{made-one, goes-on}
-use Rattle.tx_scroll.proofs.Told.{few-next, told-by-next, told-one}
+use Rattle.tx_scroll.proofs.Ticking.{at-most-next, by-next, one-time}
 use Rattle.tx_scroll.proofs.barring.+first_fit.Goals as goal
 use Rattle.tx_scroll.proofs.barring.+first_fit.Goals.{then-is_empty-via-then-is_empty, then-is_empty-via-else-is_empty+then-fits}
 
 pub returns-then-is_empty-clause-ticked : goal.returns-then-is_empty-clause-ticked
 returns-then-is_empty-clause-ticked g t c meaning means =
     let a = arranged_in meaning c.args.kind c.args.grid.now c.args.align c.args.children.now c.args.screen in
-    told-one g.L.Ledger.ticked _ c.args.steps.now.ledger c.tried.new.steps.ledger
+    one-time g.L.Ledger.ticked _ c.args.steps.now.ledger c.tried.new.steps.ledger
     (
     made-one a c.args.x c.args.y c.args.content c.args.trials.now c.in-Some.trial.now c.in-Some.later.now c.in_ok-barred.barred c.in-Some.ensures.cases.0 (c.in_ok-barred.ensures.exact meaning means)
     (elim c.then-is_empty.branch [
@@ -31,10 +31,10 @@ returns-clause-ticked g t c meaning means =
     let on = goes-on a c.args.x c.args.y c.args.content c.args.trials.now c.in-Some.trial.now c.in-Some.later.now c.in_ok-barred.barred c.in-Some.ensures.cases.0
     (c.in_ok-barred.ensures.exact meaning means) c.is_empty.result c.fits.result c.is_empty.ensures c.if-is_empty.false c.fits.ensures c.if-fits.false in
     rw on.count
-    (told-by-next g.L.Ledger.ticked c.first_fit.result _ c.args.steps.now.ledger c.tried.new.steps.ledger c.first_fit.new.steps.ledger c.in_ok-barred.ensures.ticked
+    (by-next g.L.Ledger.ticked c.first_fit.result _ c.args.steps.now.ledger c.tried.new.steps.ledger c.first_fit.new.steps.ledger c.in_ok-barred.ensures.ticked
     (c.first_fit.ensures.ticked meaning means))
 
 pub returns-clause-few : goal.returns-clause-few
 returns-clause-few g t c =
     let all : length c.args.trials.now ≡ suc (length c.in-Some.later.now) = omega (arith, c.in-Some.ensures.cases.1) in
-    rw all (few-next g.L.Ledger.ticked _ c.args.steps.now.ledger c.tried.new.steps.ledger c.first_fit.new.steps.ledger c.in_ok-barred.ensures.ticked c.first_fit.ensures.few)
+    rw all (at-most-next g.L.Ledger.ticked _ c.args.steps.now.ledger c.tried.new.steps.ledger c.first_fit.new.steps.ledger c.in_ok-barred.ensures.ticked c.first_fit.ensures.few)
