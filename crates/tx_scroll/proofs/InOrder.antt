@@ -326,6 +326,10 @@ up_to_one false end t [] last = refl
 up_to_one false end t (next ∷ later) (inl empty) = absurd (let z = eqb-true (length (next ∷ later)) 0 empty in omega arith)
 up_to_one false end t (next ∷ later) (inr fine) = absurd (false≢true fine)
 
+-- what a test came to is what it is said to mean
+pub tests-true : (r b : Bool) → r ≡ b → r ≡ true → b ≡ true
+tests-true r b is so = sym is ∙ so
+
 -- the trial that was made is the last one, or it fits: it was the only one
 pub made-one : (arrange : Arranges) (x y : Overflow) (content : Size) (ts : List Trial) (t : Trial) (later : List Trial) (b : Barred) → ts ≡ t ∷ later → outcome arrange content t ≡ Ok b
     → ((length later == 0) ≡ true) ⊎ (fits x y t b.arrangement.over ≡ true) → length (made_of arrange x y content ts) ≡ 1

@@ -1,6 +1,6 @@
-use Rattle.std.proofs.Common.{◌≡◌, inl, inr, ◌∙◌, sym, length, suc, arith}
+use Rattle.std.proofs.Common.{◌≡◌, inl, inr, length, suc, arith}
 use Rattle.tx_scroll.specs.Bars.{arranged_in}
-use Rattle.tx_scroll.proofs.InOrder.{made-one, goes-on}
+use Rattle.tx_scroll.proofs.InOrder.{made-one, goes-on, tests-true}
 use Rattle.tx_scroll.proofs.Ticking.{at-most-next, by-next, one-time}
 use Rattle.tx_scroll.proofs.barring.+first_fit.Goals as goal
 use Rattle.tx_scroll.proofs.barring.+first_fit.Goals.{then-is_empty-via-then-is_empty, then-is_empty-via-else-is_empty+then-fits}
@@ -12,8 +12,8 @@ returns-then-is_empty-clause-ticked g t c meaning means =
     (
     made-one a c.args.x c.args.y c.args.content c.args.trials.now c.in-Some.trial.now c.in-Some.later.now c.in_ok-barred.barred c.in-Some.ensures.cases.0 (c.in_ok-barred.ensures.exact meaning means)
     (elim c.then-is_empty.branch [
-      | then-is_empty-via-then-is_empty w ↦ inl (sym c.is_empty.ensures ∙ w.if-is_empty.true)
-      | then-is_empty-via-else-is_empty+then-fits w ↦ inr (sym w.fits.ensures ∙ w.if-fits.true)
+      | then-is_empty-via-then-is_empty w ↦ inl (tests-true c.is_empty.result _ c.is_empty.ensures w.if-is_empty.true)
+      | then-is_empty-via-else-is_empty+then-fits w ↦ inr (tests-true w.fits.result _ w.fits.ensures w.if-fits.true)
     ])
     )
     c.in_ok-barred.ensures.ticked
