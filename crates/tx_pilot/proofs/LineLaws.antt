@@ -109,7 +109,7 @@ sound-read line sound some =
 nil-utf8 : is_utf8 [] ≡ true
 nil-utf8 = is_utf8-from_IsUtf8 [] IsUtf8-nil
 
-nothing-read : line_of [] ≡ Ok None
+pub nothing-read : line_of [] ≡ Ok None
 nothing-read = reads-as [] false true true refl nil-utf8 refl
 
 no-verb : verb_of [] ≡ None
@@ -188,7 +188,7 @@ own-kind line kind h is = no-fault is.verb kind is.rest h is.fault
 unsound : (line : List ℕ) → list_all no_line_feed line ≡ false → IsSound line → ⊥
 unsound line h sound = false≢true (sym h ∙ sound.whole)
 
-line-read : (line : List ℕ) (read : Option Input) → line_of line ≡ Ok read → Spells line read
+pub line-read : (line : List ℕ) (read : Option Input) → line_of line ≡ Ok read → Spells line read
 line-read line read h = by (nat_lt 65536 (length line)) (is_utf8 line) (list_all no_line_feed line) refl refl refl (sym (as_reads line) ∙ h)
   where
     at : (line : List ℕ) → IsSound line → cond (is_empty line) (Ok None) (some_input (input_of line)) ≡ Ok read → Spells line read
@@ -203,7 +203,7 @@ line-read line read h = by (nat_lt 65536 (length line)) (is_utf8 line) (list_all
     by false true false e f g i = err-ok i
     by false true true e f g i = at line (record { short = ltb-false 65536 (length line) e; utf8 = f; whole = g }) i
 
-line-spelled : (line : List ℕ) (read : Option Input) → Spells line read → line_of line ≡ Ok read
+pub line-spelled : (line : List ℕ) (read : Option Input) → Spells line read → line_of line ≡ Ok read
 line-spelled line None is = ap line_of is ∙ nothing-read
 line-spelled line (Some i) (sound, is) = sound-read line sound (some-line line i is) ∙ ap some_input (input-again line i is)
 
@@ -244,7 +244,7 @@ some-err : (r : Result Input LineKind) (kind : LineKind) → some_input r ≡ Er
 some-err (Ok i) kind h = ok-err h
 some-err (Err k) kind h = ap (λ z. Err z) (err-same h)
 
-line-met : (line : List ℕ) (kind : LineKind) → line_of line ≡ Err kind → Breaks line kind
+pub line-met : (line : List ℕ) (kind : LineKind) → line_of line ≡ Err kind → Breaks line kind
 line-met line kind h = by (nat_lt 65536 (length line)) (is_utf8 line) (list_all no_line_feed line) refl refl refl (sym (as_reads line) ∙ h)
   where
     put : (line : List ℕ) → IsSound line → line ≢ [] → input_of line ≡ Err kind → (kind ≡ Expected) ⊎ HasFault line kind → Breaks line kind
@@ -291,7 +291,7 @@ other-met line is = by (line_of line) refl
     by (Ok read) e = absurd (is.nothing read (line-read line read e))
     by (Err kind) e = e ∙ ap (λ z. Err z) (at kind (line-met line kind e))
 
-line-meets : (line : List ℕ) (kind : LineKind) → Breaks line kind → line_of line ≡ Err kind
+pub line-meets : (line : List ℕ) (kind : LineKind) → Breaks line kind → line_of line ≡ Err kind
 line-meets line TooMany bad = absurd bad
 line-meets line TooLong bad =
     as_reads line ∙ ap (λ (b : Bool). reads line b (is_utf8 line) (list_all no_line_feed line)) (lt-ltb 65536 (length line) bad)

@@ -99,6 +99,18 @@ fn read_lines(alloc: Global, bytes: &[u8]) -> Result<Vec<Input>, ScriptFault>
     }
 }
 
+fn track_of(alloc: Global, bytes: &[u8]) -> Result<Track, ScriptFault>
+    requires { length bytes.now < 2 ^ 32 }
+    ensures { Gives (λ track. track.inputs) told result (script_of bytes.now) }
+{
+    match read_lines(alloc, bytes) {
+        Ok(inputs) => Ok(Track {
+            inputs: Inputs::of(inputs),
+        }),
+        Err(fault) => Err(fault),
+    }
+}
+
 /// The inputs of a script, in the order of its lines. Lines end with a line feed, which the last
 /// one may lack; an empty line has no input. The script has fewer than 2^32 bytes.
 ///
@@ -120,10 +132,5 @@ pub fn read_script(alloc: Global, bytes: &[u8]) -> Result<Track, ScriptFault>
     ensures refused { (line : ℕ) (kind : LineKind) → IsFirstFault bytes.now line kind → Gives (λ track. track.inputs) told result (Err (line, kind)) }
     ensures exact { Gives (λ track. track.inputs) told result (script_of bytes.now) }
 {
-    match read_lines(alloc, bytes) {
-        Ok(inputs) => Ok(Track {
-            inputs: Inputs::of(inputs),
-        }),
-        Err(fault) => Err(fault),
-    }
+    track_of(alloc, bytes)
 }
