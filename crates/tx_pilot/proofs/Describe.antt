@@ -49,12 +49,12 @@ pub last-describes : {A : Type 0} (reader : List ℕ → Result (A × List ℕ) 
     → Describes reader Is Bad → DescribesLast (last reader) Is Bad
 last-describes {A = A} reader Is Bad d = record {
   found = λ bytes a whole h.
-  let (f, is, e) = bind-ok (reader bytes) (λ (f : A × List ℕ). ended f.0 f.1) a h in
-  let (word, text, good) = d.found bytes f.1 f.0 is in
-  let (nil, same) = ended-ok f.0 a f.1 e in
-  (word, text ∙ ap (λ (z : List ℕ). 32 ∷ (word ++ z)) nil ∙ ap (λ (z : List ℕ). 32 ∷ z) (append-nil word), subst (Is word) same good);
+      let (f, is, e) = bind-ok (reader bytes) (λ (f : A × List ℕ). ended f.0 f.1) a h in
+      let (word, text, good) = d.found bytes f.1 f.0 is in
+      let (nil, same) = ended-ok f.0 a f.1 e in
+      (word, text ∙ ap (λ (z : List ℕ). 32 ∷ (word ++ z)) nil ∙ ap (λ (z : List ℕ). 32 ∷ z) (append-nil word), subst (Is word) same good);
   again = λ word a is.
-  ap (λ (z : List ℕ). last reader (32 ∷ z)) (sym (append-nil word)) ∙ ap (λ (r : Result (A × List ℕ) LineKind). r >>= (λ f. ended f.0 f.1)) (d.again word [] a is tt);
+      ap (λ (z : List ℕ). last reader (32 ∷ z)) (sym (append-nil word)) ∙ ap (λ (r : Result (A × List ℕ) LineKind). r >>= (λ f. ended f.0 f.1)) (d.again word [] a is tt);
   met = λ bytes kind whole h. either bytes kind (bind-err (reader bytes) (λ (f : A × List ℕ). ended f.0 f.1) kind h);
   meets = λ bytes kind bad. ap (λ (r : Result (A × List ℕ) LineKind). r >>= (λ f. ended f.0 f.1)) (d.meets bytes kind bad);
   blank = d.blank;
@@ -80,14 +80,14 @@ pub two-describe : {A B : Type 0} (first : List ℕ → Result (A × List ℕ) L
     → Describes first Is Bad → DescribesLast second And Worse → DescribesTwo (in_two first second) Is And (InTwo Is Bad Worse)
 two-describe {A = A} {B = B} first second Is And Bad Worse d e = record {
   found = λ bytes p whole h.
-  let (f, is, more) = bind-ok (first bytes) then_second p h in
-  let (b, that, same) = bind-ok (second f.1) (λ (b : B). Ok (f.0, b)) p more in
-  let (word, text, good) = d.found bytes f.1 f.0 is in
-  let (next, behind, fine) = e.found f.1 b (rest-whole bytes word f.1 text whole) that in
-  (word, next, text ∙ ap (λ (z : List ℕ). 32 ∷ (word ++ z)) behind, subst (λ (q : A × B). Is word q.0) (ok-same same) good, subst (λ (q : A × B). And next q.1) (ok-same same) fine);
+      let (f, is, more) = bind-ok (first bytes) then_second p h in
+      let (b, that, same) = bind-ok (second f.1) (λ (b : B). Ok (f.0, b)) p more in
+      let (word, text, good) = d.found bytes f.1 f.0 is in
+      let (next, behind, fine) = e.found f.1 b (rest-whole bytes word f.1 text whole) that in
+      (word, next, text ∙ ap (λ (z : List ℕ). 32 ∷ (word ++ z)) behind, subst (λ (q : A × B). Is word q.0) (ok-same same) good, subst (λ (q : A × B). And next q.1) (ok-same same) fine);
   again = λ word next a b is that.
-  ap (λ (r : Result (A × List ℕ) LineKind). r >>= then_second) (d.again word (32 ∷ next) a is refl)
-  ∙ ap (λ (r : Result B LineKind). r >>= (λ b. Ok (a, b))) (e.again next b that);
+      ap (λ (r : Result (A × List ℕ) LineKind). r >>= then_second) (d.again word (32 ∷ next) a is refl)
+      ∙ ap (λ (r : Result B LineKind). r >>= (λ b. Ok (a, b))) (e.again next b that);
   met = λ bytes kind whole h. either bytes kind whole (bind-err (first bytes) then_second kind h);
   meets = meets;
   blank = blank;

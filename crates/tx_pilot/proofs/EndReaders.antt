@@ -87,10 +87,10 @@ pub inline-describes : DescribesLast last_inline IsInline InlineFault
 unfolding last_inline
 inline-describes = record {
   found = λ bytes text whole h.
-  let (t, is, more) = bind-ok (or_refused Expected (option_and_then before_brace (behind (codes " {") bytes))) inline_or text h in
-  let stands = braced-found bytes t (refused-ok Expected (option_and_then before_brace (behind (codes " {") bytes)) t is) in
-  let (good, same) = judged-ok t t text more in
-  (in_braces t, stands, record { is = ap in_braces same; declarations = subst AreDeclarations same good });
+      let (t, is, more) = bind-ok (or_refused Expected (option_and_then before_brace (behind (codes " {") bytes))) inline_or text h in
+      let stands = braced-found bytes t (refused-ok Expected (option_and_then before_brace (behind (codes " {") bytes)) t is) in
+      let (good, same) = judged-ok t t text more in
+      (in_braces t, stands, record { is = ap in_braces same; declarations = subst AreDeclarations same good });
   again = λ word text is. inline-reads word text is.is ∙ ap (λ (b : Bool). judged b text) (declarations-again text is.declarations);
   met = λ bytes kind whole h. either bytes kind (bind-err (or_refused Expected (option_and_then before_brace (behind (codes " {") bytes))) inline_or kind h);
   meets = meets;
@@ -129,16 +129,15 @@ pub row-describes : DescribesLast last_row IsRow RowFault
 unfolding last_row
 row-describes = record {
   found = λ bytes row whole h.
-  let (new, is, more) = bind-ok (spaced bytes >>= read_row) row_or row h in
-  let (rest, blank, read) = bind-ok (spaced bytes) read_row new is in
-  let (good, same) = judged-ok new.inline new row more in
-  (
-    rest,
-    spaced-ok bytes rest blank,
-    subst (IsRow rest) same (record { spelled = row-read rest new (behind_blank bytes rest (spaced-ok bytes rest blank) whole) (refused-ok Expected (row_of rest) new read); declarations = good }),
-  );
+      let (new, is, more) = bind-ok (spaced bytes >>= read_row) row_or row h in
+      let (rest, blank, read) = bind-ok (spaced bytes) read_row new is in
+      let (good, same) = judged-ok new.inline new row more in (
+        rest,
+        spaced-ok bytes rest blank,
+        subst (IsRow rest) same (record { spelled = row-read rest new (behind_blank bytes rest (spaced-ok bytes rest blank) whole) (refused-ok Expected (row_of rest) new read); declarations = good }),
+      );
   again = λ word row is.
-  ap (λ (o : Option NewRow). or_refused Expected o >>= row_or) (row-spelled word row is.spelled) ∙ ap (λ (b : Bool). judged b row) (declarations-again row.inline is.declarations);
+      ap (λ (o : Option NewRow). or_refused Expected o >>= row_or) (row-spelled word row is.spelled) ∙ ap (λ (b : Bool). judged b row) (declarations-again row.inline is.declarations);
   met = λ bytes kind whole h. either bytes kind whole (bind-err (spaced bytes >>= read_row) row_or kind h);
   meets = meets;
   blank = blank;

@@ -232,7 +232,7 @@ last-spelled [] before size inputs (read, more, spells, all, none) few small =
     ap Ok (sym (all ∙ ap₂ (λ (x : Option Input) (y : List Input). option_to_list x ++ y) (nothing-spelled read spells) none))
 last-spelled (byte ∷ bytes) before size inputs (read, more, spells, all, none) few small =
     then-again (before + 1) (limited before (size + length (byte ∷ bytes)) (byte ∷ bytes)) (Ok []) read []
-        (limited-spelled before (size + length (byte ∷ bytes)) (byte ∷ bytes) read (omega (arith, few)) small spells) refl
+    (limited-spelled before (size + length (byte ∷ bytes)) (byte ∷ bytes) read (omega (arith, few)) small spells) refl
     ∙ ap Ok (sym (all ∙ ap (λ (y : List Input). option_to_list read ++ y) none))
 
 some-more : (lines : List (List ℕ)) (end : List ℕ) → is_empty (lines ++ end ∷ []) ≡ false
@@ -250,8 +250,8 @@ lines-spelled (line ∷ lines) end before size inputs (read, more, spells, all, 
     let e = length-append (flat_map fed lines) end in
     more_lines line (lines ++ end ∷ []) before size (some-more lines end)
     ∙ then-again (before + 1) (limited before (size + (length line + 1)) line) (inputs_of (lines ++ end ∷ []) (before + 1) (size + (length line + 1))) read more
-        (limited-spelled before (size + (length line + 1)) line read (omega (arith, few, count)) (omega (arith, small, a, b, d)) spells)
-        (lines-spelled lines end (before + 1) (size + (length line + 1)) more behind (omega (arith, few, count)) (omega (arith, small, a, b, d, e)))
+    (limited-spelled before (size + (length line + 1)) line read (omega (arith, few, count)) (omega (arith, small, a, b, d)) spells)
+    (lines-spelled lines end (before + 1) (size + (length line + 1)) more behind (omega (arith, few, count)) (omega (arith, small, a, b, d, e)))
     ∙ ap Ok (sym all)
 
 -- the inputs of the lines before the last one
@@ -460,15 +460,15 @@ at-fault : (lines : List (List ℕ)) (line : List ℕ) (rest : List (List ℕ)) 
     → inputs_of (lines ++ line ∷ rest) before size ≡ Err (before + length lines + 1, kind)
 at-fault [] line rest before size inputs kind is few small some bad =
     met-here line rest before size kind some
-        (limited-meets before (size + (length line + feeds rest)) line kind
-        (breaks-same (before + 0) before (size + 0 + (length line + feeds rest)) (size + (length line + feeds rest)) line kind (omega arith) (omega arith) bad))
+    (limited-meets before (size + (length line + feeds rest)) line kind
+    (breaks-same (before + 0) before (size + 0 + (length line + feeds rest)) (size + (length line + feeds rest)) line kind (omega arith) (omega arith) bad))
     ∙ ap (λ (n : ℕ). Err (n, kind)) (let same : before + 1 ≡ before + 0 + 1 = omega arith in same)
 at-fault (l ∷ ls) line rest before size inputs kind (read, more, spells, all, behind) few small some bad =
     let a = length-append (fed l) (flat_map fed ls) in
     let b = length-append l (codes "\n") in
     let next = at-fault ls line rest (before + 1) (size + (length l + 1)) more kind behind (omega (arith, few)) (omega (arith, small, a, b)) some
-        (breaks-same (before + length (l ∷ ls)) (before + 1 + length ls) (size + length (flat_map fed (l ∷ ls)) + (length line + feeds rest)) (size + (length l + 1) + length (flat_map fed ls) + (length line + feeds rest)) line kind
-        (omega arith) (omega (arith, a, b)) bad) in
+    (breaks-same (before + length (l ∷ ls)) (before + 1 + length ls) (size + length (flat_map fed (l ∷ ls)) + (length line + feeds rest)) (size + (length l + 1) + length (flat_map fed ls) + (length line + feeds rest)) line kind
+    (omega arith) (omega (arith, a, b)) bad) in
     let first = limited-spelled before (size + (length l + 1)) l read (omega (arith, few)) (omega (arith, small, a, b)) spells in
     more_lines l (ls ++ line ∷ rest) before size (some-behind ls line rest)
     ∙ ap₂ (λ (x : Result (Option Input) LineKind) (y : Result (List Input) Met). then_lines (before + 1) x y) first next
@@ -480,9 +480,9 @@ script-meets bytes number kind is =
     let size = length (flat_map fed is.lines) in
     let feed = tail-feeds is.after in
     ap (λ (ps : List (List ℕ)). inputs_of ps 0 0)
-        (ap (pieces 10) is.text ∙ cut-lines is.lines (is.line ++ is.after) is.inputs is.spelled ∙ ap (λ (z : List (List ℕ)). is.lines ++ z) (cut-at is.line is.after is.whole is.ends))
+    (ap (pieces 10) is.text ∙ cut-lines is.lines (is.line ++ is.after) is.inputs is.spelled ∙ ap (λ (z : List (List ℕ)). is.lines ++ z) (cut-at is.line is.after is.whole is.ends))
     ∙ at-fault is.lines is.line (tail_of is.after) 0 0 is.inputs kind is.spelled (omega (arith, is.few)) (omega (arith, is.small)) (tail-some is.line is.after is.some)
-        (breaks-same (length is.lines) (0 + length is.lines) (size + (length is.line + feed_count is.after)) (0 + size + (length is.line + feeds (tail_of is.after))) is.line kind (omega arith) (omega (arith, feed)) is.broken)
+    (breaks-same (length is.lines) (0 + length is.lines) (size + (length is.line + feed_count is.after)) (0 + size + (length is.line + feeds (tail_of is.after))) is.line kind (omega arith) (omega (arith, feed)) is.broken)
     ∙ ap (λ (n : ℕ). Err (n, kind)) (let same : 0 + length is.lines + 1 ≡ number = omega (arith, is.counted) in same)
 
 pub scripts-read : ScriptsAreRead

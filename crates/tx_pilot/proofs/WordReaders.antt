@@ -126,8 +126,9 @@ sorted-again : {A : Type 0} (kind : LineKind) (read : List ℕ → Option A) (Is
     → reader_of kind read (32 ∷ (name ++ rest)) ≡ Ok (a, rest)
 sorted-again {A = A} kind read Is s name rest a is stops =
     ap (λ (r : Result (List ℕ × List ℕ) LineKind). r >>= (λ f. with_rest kind (read f.0) f.1))
-        (word-spelled (name ++ rest) name rest (record { text = refl; some = s.some name a is; whole = s.whole name a is; ends = stops }))
+    (word-spelled (name ++ rest) name rest (record { text = refl; some = s.some name a is; whole = s.whole name a is; ends = stops }))
     ∙ ap (λ (o : Option A). with_rest kind o rest) (s.again name a is)
+
 sorted-met : {A : Type 0} (kind : LineKind) (read : List ℕ → Option A) (Is : List ℕ → A → Type 0) → Sorts read Is → (bytes : List ℕ) (k : LineKind) → reader_of kind read bytes ≡ Err k
     → (k ≡ Expected) ⊎ ((k ≡ kind) × Next (NoWord Is) bytes)
 sorted-met {A = A} kind read Is s bytes k h = either (bind-err (word_at bytes) (λ (f : List ℕ × List ℕ). with_rest kind (read f.0) f.1) k h)
@@ -315,18 +316,17 @@ pub target-describes : Describes target_at IsTarget TargetFault
 unfolding target_at
 target-describes = record {
   found = λ bytes rest selector h.
-  let (f, is, more) = bind-ok (string_at bytes) (λ (f : List ℕ × List ℕ). read_target f.0 f.1) (selector, rest) h in
-  let (text, string) = string-found bytes f.0 f.1 is in
-  let (s, good, same) = bind-ok (selector_or (selector_of f.0)) (λ (s : SelectorValue). Ok (s, f.1)) (selector, rest) more in
-  let pair : ◌≡◌ {A = SelectorValue × List ℕ} (s, f.1) (selector, rest) = ok-same same in
-  (
-    in_quotes f.0,
-    text ∙ ap (λ (p : SelectorValue × List ℕ). 32 ∷ (in_quotes f.0 ++ p.1)) pair,
-    record { text = f.0; string = string; selector = subst (λ (p : SelectorValue × List ℕ). IsSelectorText f.0 p.0) pair (selector_text f.0 s (chosen (selector_of f.0) s good)) },
-  );
+      let (f, is, more) = bind-ok (string_at bytes) (λ (f : List ℕ × List ℕ). read_target f.0 f.1) (selector, rest) h in
+      let (text, string) = string-found bytes f.0 f.1 is in
+      let (s, good, same) = bind-ok (selector_or (selector_of f.0)) (λ (s : SelectorValue). Ok (s, f.1)) (selector, rest) more in
+      let pair : ◌≡◌ {A = SelectorValue × List ℕ} (s, f.1) (selector, rest) = ok-same same in (
+        in_quotes f.0,
+        text ∙ ap (λ (p : SelectorValue × List ℕ). 32 ∷ (in_quotes f.0 ++ p.1)) pair,
+        record { text = f.0; string = string; selector = subst (λ (p : SelectorValue × List ℕ). IsSelectorText f.0 p.0) pair (selector_text f.0 s (chosen (selector_of f.0) s good)) },
+      );
   again = λ word rest selector is stops.
-  ap (λ (r : Result (List ℕ × List ℕ) LineKind). r >>= (λ f. read_target f.0 f.1)) (string-spelled word is.text rest is.string)
-  ∙ ap (λ (r : Result SelectorValue ℕ). selector_or r >>= (λ s. Ok (s, rest))) (text_selector is.text selector is.selector);
+      ap (λ (r : Result (List ℕ × List ℕ) LineKind). r >>= (λ f. read_target f.0 f.1)) (string-spelled word is.text rest is.string)
+      ∙ ap (λ (r : Result SelectorValue ℕ). selector_or r >>= (λ s. Ok (s, rest))) (text_selector is.text selector is.selector);
   met = λ bytes kind h. either bytes kind (bind-err (string_at bytes) (λ (f : List ℕ × List ℕ). read_target f.0 f.1) kind h);
   meets = meets;
   blank = blank;

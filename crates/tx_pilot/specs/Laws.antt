@@ -18,4 +18,4 @@ abbrev pub ScriptsAreRead : Type 0
 ScriptsAreRead = (bytes : List ℕ)
     → ((inputs : List Input) → (script_of bytes ≡ Ok inputs → IsScript bytes inputs) × (IsScript bytes inputs → script_of bytes ≡ Ok inputs))
     × ((number : ℕ) (kind : LineKind)
-        → (script_of bytes ≡ Err (number, kind) → IsFirstFault bytes number kind) × (IsFirstFault bytes number kind → script_of bytes ≡ Err (number, kind)))
+    → (script_of bytes ≡ Err (number, kind) → IsFirstFault bytes number kind) × (IsFirstFault bytes number kind → script_of bytes ≡ Err (number, kind)))

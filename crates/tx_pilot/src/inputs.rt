@@ -23,6 +23,7 @@ use tx_tree_file::split_word;
 const MOST_PLACE: u32 = 9_999;
 // The greatest sides of the screen.
 const MOST_WIDTH: u32 = 1_024;
+
 const MOST_HEIGHT: u32 = 512;
 // The most that a row advances by at once.
 const MOST_ADVANCE: u32 = 1_000_000;

@@ -5,9 +5,9 @@
 
 mod ends;
 mod fault;
+mod inputs;
 pub mod laws;
 mod line;
-mod inputs;
 mod script;
 #[cfg(test)]
 mod tests;

@@ -15,6 +15,7 @@ use tx_route::{Input, Inputs, Track};
 
 // The most lines of a script, and its most bytes.
 const MOST_LINES: u32 = 100_000;
+
 const MOST_BYTES: usize = 67_108_864;
 
 // The input of a line after so many, with which the script has so many bytes.

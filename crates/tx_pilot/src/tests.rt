@@ -96,7 +96,11 @@ fn described(alloc: Global, input: &Input) -> Result<String, AllocError> {
             ("SetText", target, format!(in alloc; "[{}]", text.as_str())?)
         }
         Input::SetInline { target, text } => {
-            ("SetInline", target, format!(in alloc; "[{}]", text.as_str())?)
+            (
+                "SetInline",
+                target,
+                format!(in alloc; "[{}]", text.as_str())?,
+            )
         }
         Input::Mount { target, row } => ("Mount", target, row_text(alloc, row)?),
         Input::Before { target, other } => ("Before", target, self::target(alloc, other)?),

@@ -38,8 +38,8 @@ press f13 => BadKey\n\
 press f01 => BadKey\n\
 press ctrl+A => BadKey\n\
 press Enter => BadKey\n\
-press 	 => BadKey\n\
-press  => BadKey\n\
+press \t => BadKey\n\
+press \u{85} => BadKey\n\
 press => Expected\n\
 press  => Expected\n\
 press   => Expected\n\
@@ -87,7 +87,7 @@ click x => BadNumber\n\
 hover 10000 => BadNumber\n\
 hover => Expected\n\
 hover 1 => Expected\n\
-click	1 2 => Expected",
+click\t1 2 => Expected",
         |given| answer(alloc, given),
     )
 }
@@ -180,8 +180,8 @@ jump => Expected\n\
 press|a => Expected\n\
 pause| => Expected\n\
 | => Expected\n\
-pause => Expected\n\
-﻿pause => Expected",
+pause\r => Expected\n\
+\u{feff}pause => Expected",
         |given| answer(alloc, given),
     )
 }

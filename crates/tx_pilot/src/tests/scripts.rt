@@ -60,7 +60,7 @@ pause|~|jump => 2 BadByte\n\
 pause|resize 0 1 => 2 BadNumber\n\
 pause|  => 2 Expected\n\
 style '#s' {color: red;} => SetInline 1:#s [color: red;];\n\
-pause||pause => 2 Expected",
+pause|\r|pause => 2 Expected",
         |given| answer(alloc, given),
     )
 }

@@ -11,8 +11,8 @@ returns-in-Err c =
     let size = length c.args.bytes.now - length c.in-Some.rest.now in
     let short : length c.loop-line.left.now ≤ length c.args.bytes.now = omega (arith, c.loop-line.invariant.lines) in
     subst (λ (r : Result (List Input) Met). Tells (told c.in-Err.fault) r)
-        (so-line c.args.bytes.now c.loop-line.left.now c.in-Some.line.now c.in-Some.rest.now c.loop-line.inputs.items c.loop-line.before c.in-Some.ensures.pieces short c.loop-line.invariant.so)
-        (c.in-Err.ensures.fault (inputs_of (pieces 10 c.in-Some.rest.now) (c.loop-line.before + 1) size))
+    (so-line c.args.bytes.now c.loop-line.left.now c.in-Some.line.now c.in-Some.rest.now c.loop-line.inputs.items c.loop-line.before c.in-Some.ensures.pieces short c.loop-line.invariant.so)
+    (c.in-Err.ensures.fault (inputs_of (pieces 10 c.in-Some.rest.now) (c.loop-line.before + 1) size))
 
 pub loop-line-preserved : goal.loop-line-preserved
 loop-line-preserved c =
