@@ -27,7 +27,7 @@ fn cut_span(asked: Spans, columns: u32, rows: Option<u32>) -> Spans
 
 // Where a child with this span stands beside the cells that are taken. It takes its own.
 //
-// For each span `known` has the row up to which it fits nowhere, so that no search begins anew.
+// For each span `known` has a row before which it fits nowhere, so that no search begins anew.
 fn place_next(
     taken: &mut Vec<u128>,
     known: &mut Vec<u32>,
@@ -66,7 +66,8 @@ fn place_next(
 /// Spans are cut to the columns, and to the rows where these are given. Each child then takes the
 /// first place in row order at which its whole span is inside and shares no cell with a child
 /// before it. Columns and spans are from 1 to 100, rows from 1 to 1,000 where they are given, and
-/// there are at most 65,536 children. It is refused only where memory is wanting.
+/// there are at most 65,536 children. Each place is inside, and the rows used are at most 100 for each
+/// child. It fails only when out of memory.
 pub fn stand(
     alloc: Global,
     spans: &[Spans],
