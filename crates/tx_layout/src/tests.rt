@@ -284,7 +284,9 @@ fn children_of(alloc: Global, words: &str) -> Result<Vec<BoxStyle>, Fail>
     ensures styles { IfOk result (λ v. All IsBoxStyle v.items) }
     ensures count { IfOk result (λ v. length v.items ≤ 20) }
 {
-    let _seen: BoxStyle = plain();
+    let seen: BoxStyle = plain();
+    let _size: Scalar = seen.width;
+    let _limit: Option<Scalar> = None;
     let mut children = Vec::new(alloc);
     for word in words.split_ascii_whitespace() {
         if children.len() == 20 {
@@ -468,7 +470,7 @@ fn arranged_written(
     }
 }
 
-// The arrangement in an area, with one tick, and behind it the two measures, the height at the
+// The arrangement in an area with its ticks, and after it the two measures, the height at the
 // width of the area.
 fn answer(alloc: Global, given: &str) -> Result<String, Fail> {
     let Some((head, words)) = given.split_once(" |") else {
@@ -503,7 +505,7 @@ fn answer(alloc: Global, given: &str) -> Result<String, Fail> {
 }
 
 // Each row has the kind, the area, the alignment and the children, each with its properties; a size
-// that isn't given is `1fr`. Behind the arrow stand the ticks, the regions, how far they go over the
+// that isn't given is `1fr`. After the arrow come the ticks, the regions, how far they go over the
 // room, and the width and the height that the container asks for; or the direction of a refusal.
 #[test]
 fn lines_stand_as_worked_out(rt: HostRuntime) -> Result<(), Fail> {
