@@ -1,6 +1,6 @@
 -- Each edit by itself leads.
-use Rattle.std.proofs.Common.{◌≡◌, ℕ, ◌==◌, ◌+◌, ◌&&◌, ◌||◌, Bool, true, false, not, cond, List, [], ◌∷◌, ◌++◌, map, filter, Option, Some, None, option_map, Decides, refl, sym, ap, subst, ◌∙◌, inl, inr}
-use Rattle.std.specs.List.{find, list_any}
+use Rattle.std.proofs.Common.{◌≡◌, ℕ, ◌==◌, ◌+◌, ◌&&◌, ◌||◌, Bool, true, false, cond, List, [], ◌∷◌, map, Option, Some, None, option_map, refl, sym, ap, subst, ◌∙◌, inl, inr}
+use Rattle.std.specs.List.{list_any}
 use Rattle.std.specs.Str.{bytes_eq}
 use Rattle.std.specs.Prelude.{if◌then◌else◌, option_and_then}
 use Rattle.std.proofs.lemmas.Bool.{cases_Bool, eq-eqb, eqb-true, false≢true}
@@ -15,7 +15,7 @@ use Rattle.tx_tree.specs.declared.row.NodeId.{NodeId}
 use Rattle.tx_tree.specs.declared.row.Row.{Row}
 use Rattle.tx_select.specs.declared.value.Pseudo.{Pseudo as State}
 use Rattle.tx_cascade.specs.EditLaws.{NoEditLeads, ChangesOfRowsLead, ChangesOfStatesLead, EachEditLeads}
-use Rattle.tx_cascade.specs.Edits.{is_node, is_end, names_class, names_content, names_inline, names_disabled, names_focus, names_pointed, names_dark, comes_before, RowLeads, RowsLead, EndsNamed, StateLeads, Leads}
+use Rattle.tx_cascade.specs.Edits.{is_node, is_end, names_class, names_content, names_inline, names_disabled, names_focus, names_pointed, comes_before, RowLeads, RowsLead, EndsNamed, StateLeads, Leads}
 use Rattle.tx_cascade.specs.declared.edit.Edit.{Edit}
 use Rattle.tx_cascade.specs.declared.edit.Edit.TheVariants.{Class, Text, Inline, Disabled, State as Private_state, Focus, Pointed, Dark}
 use Rattle.tx_cascade.proofs.Parents.{row-number}

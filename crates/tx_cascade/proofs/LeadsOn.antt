@@ -1,17 +1,17 @@
 -- Edits that lead to where others lead on from.
-use Rattle.std.proofs.Common.{◌≡◌, ◌⊎◌, ℕ, ◌==◌, ◌≤◌, ◌||◌, Bool, true, false, List, [], ◌∷◌, ◌++◌, Option, Some, None, option_map, is_some, refl, sym, ap, subst, ◌∙◌, inl, inr}
+use Rattle.std.proofs.Common.{◌≡◌, ◌⊎◌, ℕ, ◌==◌, ◌||◌, Bool, true, false, List, ◌++◌, Option, Some, None, option_map, is_some, refl, sym, ap, subst, ◌∙◌, inl, inr}
 use Rattle.std.specs.List.{list_any}
 use Rattle.std.proofs.lemmas.Bool.{cases_Bool, eq-eqb, eqb-true, false≢true}
 use Rattle.std.proofs.lemmas.List.Folds.{list_any-append}
 use Rattle.tx_tree.specs.Row.{number}
 use Rattle.std.specs.Prelude.{option_and_then}
-use Rattle.tx_tree.specs.Rows.{row_at, before_of, last_above, parent_of, count_of}
+use Rattle.tx_tree.specs.Rows.{row_at, before_of, last_above, parent_of}
 use Rattle.tx_tree.specs.Walk.{NumbersDiffer}
 use Rattle.tx_tree.specs.declared.row.NodeId.{NodeId}
 use Rattle.tx_tree.specs.declared.row.Row.{Row}
 use Rattle.tx_select.specs.declared.value.Pseudo.{Pseudo as State}
 use Rattle.tx_cascade.specs.EditLaws.{StayBetween, EditsLeadOn}
-use Rattle.tx_cascade.specs.Edits.{names_class, names_mounted, names_removed, names_moved, names_content, names_inline, names_disabled, names_focus, names_pointed, names_dark, comes_before, RowLeads, RowsLead, EndsNamed, StateLeads, Leads}
+use Rattle.tx_cascade.specs.Edits.{names_class, names_mounted, names_removed, names_moved, names_content, names_inline, names_disabled, names_focus, names_pointed, names_dark, comes_before, RowLeads, RowsLead, EndsNamed, StateLeads}
 use Rattle.tx_cascade.specs.declared.edit.Edit.{Edit}
 use Rattle.tx_cascade.proofs.Parents.{parent-at}
 

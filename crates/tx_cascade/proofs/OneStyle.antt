@@ -1,18 +1,16 @@
 -- A row has one style.
-use Rattle.std.proofs.Common.{◌≡◌, ℕ, ◌≤◌, Bool, true, false, List, [], ◌∷◌, Option, Some, None, option_map, refl, sym, ap, ◌∙◌, inl, inr}
+use Rattle.std.proofs.Common.{◌≡◌, ℕ, true, false, List, ◌∷◌, Option, Some, None, option_map, refl, sym, ap, ◌∙◌, inl, inr}
 use Rattle.std.proofs.lemmas.Bool.{cases_Bool, false≢true}
-use Rattle.tx_tree.specs.Row.{number}
-use Rattle.tx_tree.specs.Rows.{row_at, ancestors_of, count_of}
+use Rattle.tx_tree.specs.Rows.{row_at, ancestors_of}
 use Rattle.tx_tree.specs.Walk.{NumbersDiffer}
 use Rattle.tx_tree.specs.declared.row.Row.{Row}
 use Rattle.tx_select.specs.declared.value.Compound.{Compound}
 use Rattle.tx_select.specs.declared.value.Pseudo.{Pseudo as State}
 use Rattle.tx_parse.specs.Values.{SheetValue}
 use Rattle.tx_value.specs.declared.value.Value.{Value}
-use Rattle.tx_cascade.specs.Cascade.{style_below, styled, IsStyleOf}
+use Rattle.tx_cascade.specs.Cascade.{styled, IsStyleOf}
 use Rattle.tx_cascade.specs.Laws.{MatchersAgree, OneStyle, StylesAreThose}
 use Rattle.tx_cascade.specs.Matchers.{Matcher, AreMatchers, matchers_of}
-use Rattle.tx_cascade.specs.Reaching.{reaching}
 use Rattle.tx_cascade.specs.Styles.{all_styles}
 use Rattle.tx_cascade.proofs.Matching.{matchers-agree}
 

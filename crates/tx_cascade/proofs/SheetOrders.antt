@@ -1,6 +1,6 @@
 -- Rules of a sheet at a row: which of their declarations reach it, and which of two beats the other.
 use Rattle.std.proofs.Common.{◌≡◌, ◌⊎◌, ℕ, ◌+◌, ◌<◌, ◌==◌, nat_lt, Bool, true, false, List, [], ◌∷◌, ◌++◌, map, filter, Option, Some, None, slice_get, refl, sym, ap, subst, ◌∙◌, inl, inr, arith}
-use Rattle.std.specs.List.{enumerate_from, flat_map}
+use Rattle.std.specs.List.{enumerate_from}
 use Rattle.std.specs.Option.{option_map_or}
 use Rattle.std.specs.Prelude.{if◌then◌else◌}
 use Rattle.std.proofs.lemmas.Bool.{cases_Bool, eqb-true, false≢true}
@@ -14,7 +14,7 @@ use Rattle.tx_cascade.specs.Key.{rank, weight_parts, exceeds}
 use Rattle.tx_cascade.specs.Laws.{IsIn, IsMoreSpecific}
 use Rattle.tx_cascade.specs.Matchers.{Matcher, AreMatchers}
 use Rattle.tx_cascade.specs.Reaching.{weight, weight_at, reached, all_reached, of_rule, of_rules, no_weight, inline_declarations, reaching}
-use Rattle.tx_cascade.specs.SheetOrder.{CountsAs, Reaches, SheetReaches, SheetReachesRows, SheetOrder, SheetsAreOrdered}
+use Rattle.tx_cascade.specs.SheetOrder.{CountsAs, Reaches, SheetReaches, SheetReachesRows, SheetsAreOrdered}
 use Rattle.tx_cascade.specs.declared.key.Origin.{Origin}
 use Rattle.tx_cascade.specs.declared.key.Origin.TheVariants.{Default, Sheet, Inline}
 use Rattle.tx_cascade.specs.declared.key.Weight.{Weight}

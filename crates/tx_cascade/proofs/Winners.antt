@@ -1,18 +1,16 @@
 -- What beats all others of its property gives the value.
-use Rattle.std.proofs.Common.{◌≡◌, ◌⊎◌, ℕ, ◌==◌, Bool, true, false, List, ◌∷◌, filter, Option, Some, None, unwrap_or, refl, sym, ap, subst, ◌∙◌, inl, inr}
+use Rattle.std.proofs.Common.{◌≡◌, ◌⊎◌, ℕ, Bool, true, false, List, ◌∷◌, filter, Option, Some, refl, sym, ap, subst, ◌∙◌, inl, inr}
 use Rattle.std.specs.Option.{option_map_or}
 use Rattle.std.proofs.lemmas.Bool.{eq-eqb, eqb-true, false≢true}
-use Rattle.tx_tree.specs.Rows.{row_at, ancestors_of}
-use Rattle.tx_tree.specs.Row.{number as number_of}
+use Rattle.tx_tree.specs.Rows.{ancestors_of}
 use Rattle.tx_tree.specs.declared.row.Row.{Row}
 use Rattle.tx_value.specs.Inheritance.{inheritance_of}
-use Rattle.tx_value.specs.Style.{number, style_value, every_property, ValuesMakeStyles}
+use Rattle.tx_value.specs.Style.{number, style_value, ValuesMakeStyles}
 use Rattle.tx_value.specs.declared.inheritance.Inheritance.{Inheritance}
 use Rattle.tx_value.specs.declared.inheritance.Inheritance.TheVariants.{NotInherited, Inherited, Added}
 use Rattle.tx_value.specs.declared.property.Property.{Property}
 use Rattle.tx_value.specs.declared.value.Value.{Value}
-use Rattle.tx_select.specs.declared.value.Pseudo.{Pseudo as State}
-use Rattle.tx_cascade.specs.Cascade.{counts, winner, is_initial, unless_initial, given, or_default, declared, valued, value_below, style_below, styled, IsStyleOf}
+use Rattle.tx_cascade.specs.Cascade.{counts, winner, is_initial, unless_initial, given, or_default, declared, valued, value_below, style_below, styled}
 use Rattle.tx_cascade.specs.Key.{key_parts, exceeds}
 use Rattle.tx_cascade.specs.Laws.{IsIn, Beats, WinnersCount}
 use Rattle.tx_cascade.specs.Matchers.{Matcher}

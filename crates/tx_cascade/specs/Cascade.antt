@@ -89,7 +89,7 @@ style_below above all = map (value_below above all) every_property
 
 -- ---- rows
 
--- The style of a row, which stands first with its ancestors behind it: each has its parent's style above it, and the Screen has
+-- The style of a row, which stands first, its ancestors after it: each has its parent's style above it, and the Screen has
 -- the initial values there. The matchers tell which selectors match the row with a number.
 abbrev pub styled : (ℕ → Matcher) → SheetValue → List Row → List Value
 styled matchers sheet [] = initial_style

@@ -1,5 +1,5 @@
 -- What holds of the cascade.
-use Rattle.std.specs.Prelude.{◌≡◌, ◌⊎◌, ℕ, ◌==◌, ◌<◌, true, false, List, [], ◌∷◌, Some}
+use Rattle.std.specs.Prelude.{◌≡◌, ◌⊎◌, ℕ, ◌<◌, true, false, List, [], ◌∷◌, Some}
 use Rattle.tx_tree.specs.Rows.{row_at}
 use Rattle.tx_tree.specs.Walk.{NumbersDiffer}
 use Rattle.tx_tree.specs.declared.row.Row.{Row}

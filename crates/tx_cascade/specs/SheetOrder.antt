@@ -1,5 +1,5 @@
 -- Which of two declarations of a sheet counts at a row, in the words of rules and selectors.
-use Rattle.std.specs.Prelude.{◌≡◌, ◌⊎◌, ℕ, ◌<◌, true, false, List, [], ◌∷◌, Some}
+use Rattle.std.specs.Prelude.{◌≡◌, ◌⊎◌, ℕ, ◌<◌, true, false, List, Some}
 use Rattle.std.specs.List.{slice_get}
 use Rattle.tx_tree.specs.declared.row.Row.{Row}
 use Rattle.tx_select.specs.Match.{IsMatch}
