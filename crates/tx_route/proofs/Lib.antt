@@ -4,3 +4,5 @@ pub mod Steps
 pub mod Paths
 pub mod Missed
 pub mod There
+pub mod Rounds
+pub mod Ones

@@ -18,7 +18,7 @@ use Rattle.tx_route.proofs.Paths.{or-none, or-assoc}
 
 -- ---- nodes of rows
 
-abbrev node_of : Option Row → Option NodeId
+abbrev pub node_of : Option Row → Option NodeId
 node_of o = option_map (λ row. row.node) o
 
 pub no-node : (o : Option Row) → node_of o ≡ None → o ≡ None

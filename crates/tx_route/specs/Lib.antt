@@ -5,3 +5,4 @@ pub mod Pressing
 pub mod Pointing
 pub mod Changing
 pub mod Routing
+pub mod Laws
