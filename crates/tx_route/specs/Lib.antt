@@ -6,3 +6,4 @@ pub mod Pointing
 pub mod Changing
 pub mod Routing
 pub mod Laws
+pub mod Panes

@@ -1,1 +1,6 @@
 mod copies;
+mod deliveries;
+mod focus;
+mod inputs;
+mod panes;
+mod planted;
