@@ -8,7 +8,7 @@ use Rattle.tx_tree_file.proofs.lemmas.WordCuts.{all-behind}
 use Rattle.tx_pilot.specs.declared.fault.LineKind.{LineKind}
 use Rattle.tx_pilot.specs.declared.fault.LineKind.TheVariants.{Expected}
 use Rattle.tx_pilot.specs.LineReading.{ended, last}
-use Rattle.tx_pilot.specs.Lines.{Behind, InTwo}
+use Rattle.tx_pilot.specs.Lines.{InTwo}
 use Rattle.tx_pilot.proofs.Steps.{bind-ok, bind-err, ok-same, ok-err, ended-ok, ended-err}
 
 -- a blank comes first

@@ -1,18 +1,16 @@
 -- The readers of what stands at the end of a line give exactly what is in their grammars.
-use Rattle.std.proofs.lemmas.Bool.{and_parts, and_from, false≢true}
-use Rattle.std.proofs.Common.{◌≡◌, ◌⊎◌, inl, inr, ℕ, ◌==◌, Bool, true, false, cond, List, [], ◌∷◌, ◌++◌, Option, Some, None, Result, Ok, Err, option_and_then, codes, bytes_eq, refl, ap, sym, subst, ◌∙◌}
+use Rattle.std.proofs.lemmas.Bool.{false≢true}
+use Rattle.std.proofs.Common.{◌≡◌, ◌⊎◌, inl, inr, ℕ, Bool, true, false, cond, List, ◌∷◌, Option, Some, Result, Ok, Err, option_and_then, codes, bytes_eq, refl, ap, sym, subst, ◌∙◌}
 use Rattle.std.specs.List.{list_all}
 use Rattle.std.specs.Str.{is_utf8}
 use Rattle.tx_read.specs.Answer.{or_refused}
 use Rattle.tx_read.specs.Pieces.{behind}
 use Rattle.tx_read.specs.Reading.{◌>>=◌}
-use Rattle.tx_text.specs.Name.{is_name, IsName}
 use Rattle.tx_tree.specs.Spelled.{no_line_feed}
 use Rattle.tx_tree.specs.declared.row.NewRow.{NewRow}
 use Rattle.tx_tree_file.specs.Parts.{before_brace}
 use Rattle.tx_tree_file.specs.TreeReading.{row_of}
-use Rattle.tx_tree_file.specs.Words.{IsNewRow}
-use Rattle.tx_tree_file.proofs.lemmas.WordCuts.{some-same, none-some, same-byte, same_bytes, front_of, before_brace-found, brace-again}
+use Rattle.tx_tree_file.proofs.lemmas.WordCuts.{same_bytes, front_of, before_brace-found, brace-again}
 use Rattle.tx_tree_file.proofs.lemmas.Words.{row-read, row-spelled}
 use Rattle.tx_parse.specs.Grammar.{Body}
 use Rattle.tx_parse.specs.Texts.{Report, inline_of, IsInlineText}
@@ -20,8 +18,8 @@ use Rattle.tx_parse.proofs.lemmas.TextLaws.{inline_text, text_inline}
 use Rattle.tx_pilot.specs.declared.fault.LineKind.{LineKind}
 use Rattle.tx_pilot.specs.declared.fault.LineKind.TheVariants.{Expected, BadInline}
 use Rattle.tx_pilot.specs.LineReading.{spaced, is_body, are_declarations, inline_or, last_inline, row_or, last_row, last_theme}
-use Rattle.tx_pilot.specs.Lines.{Next, InlineFault, RowFault}
-use Rattle.tx_pilot.specs.Words.{AreDeclarations, in_braces, IsInline, IsRow, NoInline, NoRowInline}
+use Rattle.tx_pilot.specs.Lines.{InlineFault, RowFault}
+use Rattle.tx_pilot.specs.Words.{AreDeclarations, in_braces, IsInline, IsRow}
 use Rattle.tx_pilot.proofs.Describe.{DescribesLast, Blank, Whole}
 use Rattle.tx_pilot.proofs.Steps.{ok-same, err-same, ok-err, err-ok, bind-ok, bind-err, refused-ok, refused-err}
 use Rattle.tx_pilot.proofs.WordReaders.{and-then, spaced-ok, spaced-err}

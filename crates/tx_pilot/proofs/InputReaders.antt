@@ -1,33 +1,29 @@
 -- What is read behind the first word of a line is exactly what may stand there.
-use Rattle.std.proofs.lemmas.Bool.{and_parts, false≢true}
+use Rattle.std.proofs.lemmas.Bool.{and_parts}
 use Rattle.std.proofs.lemmas.Bool.Decides.{nat_tests}
-use Rattle.std.proofs.Common.{IsTrue, ◌≡◌, ◌⊎◌, inl, inr, ℕ, ◌==◌, ◌&&◌, Bool, true, false, cond, nat_lt, List, [], ◌∷◌, ◌++◌, length, Option, Some, None, Result, Ok, Err, codes, is_some, refl, ap, sym, subst, ◌∙◌, arith}
+use Rattle.std.proofs.Common.{◌≡◌, ◌⊎◌, inl, inr, ℕ, ◌==◌, Bool, true, false, cond, nat_lt, List, [], ◌∷◌, ◌++◌, length, Some, None, Result, Ok, Err, codes, is_some, refl, ap, sym, subst, ◌∙◌, arith}
 use Rattle.std.specs.Char.{is_ascii_digit}
 use Rattle.std.specs.List.{list_all}
 use Rattle.std.specs.Str.{is_utf8}
 use Rattle.std.proofs.lemmas.Str.{is_utf8-from_IsUtf8}
 use Rattle.tx_read.specs.Number.{is_number}
-use Rattle.tx_read.specs.Pieces.{behind}
 use Rattle.tx_read.specs.Reading.{◌>>=◌}
-use Rattle.tx_geom.specs.declared.places.Size.{Size}
-use Rattle.tx_text.specs.Name.{is_name, IsName}
-use Rattle.tx_tree.specs.declared.bind.Key.{Key}
+use Rattle.tx_text.specs.Name.{is_name}
 use Rattle.tx_tree.specs.declared.row.NewRow.{NewRow}
-use Rattle.tx_tree_file.specs.TreeReading.{is_empty}
-use Rattle.tx_tree_file.specs.Words.{Stops, IsKeyName, in_quotes}
+use Rattle.tx_tree_file.specs.Words.{IsKeyName}
 use Rattle.tx_tree_file.proofs.lemmas.WordCuts.{same-byte, is_low, low-utf8}
 use Rattle.tx_select.specs.SelectorValue.{SelectorValue}
 use Rattle.tx_route.specs.declared.input.Input.{Input}
 use Rattle.tx_route.specs.declared.input.Input.TheVariants as input
 use Rattle.tx_pilot.specs.declared.fault.LineKind.{LineKind}
-use Rattle.tx_pilot.specs.declared.fault.LineKind.TheVariants.{Expected, BadNumber, BadSelector}
+use Rattle.tx_pilot.specs.declared.fault.LineKind.TheVariants.{Expected, BadSelector}
 use Rattle.tx_pilot.specs.declared.verb.Verb.{Verb}
 use Rattle.tx_pilot.specs.declared.verb.Verb.TheVariants.{Press, Click, Hover, Pause, Resize, Class, Text, Style, Disable, Enable, Mount, Remove, Before, Advance, Theme}
-use Rattle.tx_pilot.specs.LineReading.{spaced, key_at, number_at, string_at, target_at, ended, last, marked, class_of, last_inline, last_row, last_theme, two_numbers, point, with_target, input_behind, input_by, input_of}
+use Rattle.tx_pilot.specs.LineReading.{spaced, key_at, number_at, string_at, target_at, last, marked, class_of, last_inline, last_row, last_theme, two_numbers, point, with_target, input_behind, input_by, input_of}
 use Rattle.tx_pilot.specs.Lines.{OneWord, TwoWords, IsPlace, IsLine, KeyFault, NumberFault, TargetFault, InlineFault, RowFault, NoFault, InTwo, is_quote_next, PlaceFault, Fault}
 use Rattle.tx_pilot.specs.Verbs.{verb_name, verb_named}
 use Rattle.tx_pilot.specs.Words.{IsNumber, IsString, IsTarget, IsMarked, IsInline, IsRow}
-use Rattle.tx_pilot.proofs.Describe.{Blank, Whole, Describes, DescribesLast, DescribesTwo, last-describes, two-describe}
+use Rattle.tx_pilot.proofs.Describe.{Blank, Whole, DescribesLast, DescribesTwo, last-describes, two-describe}
 use Rattle.tx_pilot.proofs.EndReaders.{inline-describes, row-describes, theme-found, theme-err}
 use Rattle.tx_pilot.proofs.Steps.{ok-same, err-same, ok-err, err-ok, bind-ok, bind-err, ended-ok, ended-err}
 use Rattle.tx_pilot.proofs.WordReaders.{spaced-ok, spaced-err, key-describes, number-describes, string-describes, target-describes, digits-some}

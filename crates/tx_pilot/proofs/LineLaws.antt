@@ -1,6 +1,6 @@
 -- A line is read exactly as what it spells, and refused exactly for the first rule that it breaks.
 use Rattle.std.proofs.lemmas.Bool.{false≢true, ltb-true, ltb-false, lt-ltb}
-use Rattle.std.proofs.Common.{◌≡◌, ◌≢◌, ◌⊎◌, inl, inr, ℕ, ◌≤◌, ◌<◌, Bool, true, false, cond, not, nat_lt, List, [], ◌∷◌, ◌++◌, length, Option, Some, None, Result, Ok, Err, codes, IfOk, IfErr, refl, ap, sym, subst, ◌∙◌, arith}
+use Rattle.std.proofs.Common.{◌≡◌, ◌≢◌, ◌⊎◌, inl, inr, ℕ, ◌≤◌, Bool, true, false, cond, not, nat_lt, List, [], ◌∷◌, ◌++◌, length, Option, Some, None, Result, Ok, Err, IfOk, IfErr, refl, ap, sym, subst, ◌∙◌, arith}
 use Rattle.std.specs.List.{list_all}
 use Rattle.std.specs.Str.{is_utf8}
 use Rattle.std.proofs.lemmas.Str.{is_utf8-from_IsUtf8, IsUtf8-nil}
@@ -8,9 +8,8 @@ use Rattle.tx_read.specs.Answer.{Gives}
 use Rattle.tx_tree.specs.Spelled.{no_line_feed}
 use Rattle.tx_tree_file.specs.Parts.{word, past_word}
 use Rattle.tx_tree_file.specs.TreeReading.{is_empty}
-use Rattle.tx_tree_file.proofs.lemmas.WordCuts.{some-same, none-some, word_split, find-found, all-behind}
+use Rattle.tx_tree_file.proofs.lemmas.WordCuts.{none-some, word_split, find-found, all-behind}
 use Rattle.tx_route.specs.declared.input.Input.{Input}
-use Rattle.tx_route.specs.declared.input.Input.TheVariants as input
 use Rattle.tx_pilot.specs.Laws.{LinesAreRead}
 use Rattle.tx_pilot.specs.LineReading.{input_behind, input_by, input_of, some_input, line_of, told}
 use Rattle.tx_pilot.specs.Lines.{IsPlace, IsLine, IsSound, Spells, KeyFault, NumberFault, TargetFault, InlineFault, RowFault, InTwo, PlaceFault, Fault, HasFault, IsOther, Breaks, IsFaultOf}

@@ -1,6 +1,6 @@
 -- A script is read exactly as what it spells, and refused exactly for its first line that breaks a rule.
 use Rattle.std.proofs.lemmas.Bool.{false≢true, and_parts, leb-true, leb-false, le-leb, lt-leb, ltb-true, ltb-false, lt-ltb}
-use Rattle.std.proofs.Common.{◌≡◌, ◌≢◌, ◌⊎◌, inl, inr, ℕ, ◌+◌, ◌≤◌, ◌<◌, ◌==◌, Bool, true, false, cond, nat_le, nat_lt, List, [], ◌∷◌, ◌++◌, length, flat_map, Option, Some, None, Result, Ok, Err, option_to_list, IfOk, IfErr, codes, refl, ap, ap₂, sym, subst, ◌∙◌, arith, append_assoc, append-nil, length-append}
+use Rattle.std.proofs.Common.{◌≡◌, ◌≢◌, ◌⊎◌, inl, inr, ℕ, ◌+◌, ◌≤◌, ◌<◌, Bool, true, false, cond, nat_le, nat_lt, List, [], ◌∷◌, ◌++◌, length, flat_map, Option, Some, None, Result, Ok, Err, option_to_list, IfOk, IfErr, codes, refl, ap, ap₂, sym, subst, ◌∙◌, arith, append_assoc, append-nil, length-append}
 use Rattle.std.specs.List.{list_all}
 use Rattle.tx_read.specs.Answer.{Gives}
 use Rattle.tx_read.specs.Pieces.{pieces}
@@ -417,7 +417,7 @@ script-met bytes number kind h = by (pieces 10 bytes) (some_piece bytes) (joined
           broken = breaks-same (0 + length at.lines) (length at.lines) (0 + size + (length at.line + feeds at.rest)) (size + (length at.line + feed_count (after_of at.rest))) at.line kind (omega arith) (omega (arith, feed)) at.broken;
         }
 
--- ---- a first fault is told
+-- ---- a first fault is reported
 
 -- the pieces behind a line
 abbrev tail_of : List ℕ → List (List ℕ)

@@ -1,11 +1,10 @@
 -- The loop over the lines of a script.
-use Rattle.std.proofs.Common.{◌≡◌, ℕ, ◌+◌, ◌-◌, ◌≤◌, ◌<◌, Bool, true, false, cond, List, [], ◌∷◌, ◌++◌, length, Option, Some, None, Result, Ok, Err, option_to_list, refl, ap, ap₂, sym, ◌∙◌, arith, append-nil, length-append}
+use Rattle.std.proofs.Common.{◌≡◌, ℕ, ◌+◌, ◌-◌, ◌≤◌, Bool, false, cond, List, [], ◌∷◌, ◌++◌, length, Result, Ok, Err, refl, ap, sym, ◌∙◌, arith, append-nil, length-append}
 use Rattle.tx_read.specs.Pieces.{pieces}
 use Rattle.tx_tree_file.specs.TreeReading.{is_empty}
 use Rattle.tx_tree_file.proofs.lemmas.Lines.{joined, joined-pieces, some_piece}
 use Rattle.tx_route.specs.declared.input.Input.{Input}
 use Rattle.tx_pilot.specs.ScriptReading.{Met, limited, put_before, then_lines, inputs_of, script_of}
-use Rattle.tx_pilot.specs.declared.fault.LineKind.{LineKind}
 
 -- lines that are left, behind one
 pub more_lines : (line : List ℕ) (lines : List (List ℕ)) (before size : ℕ) → is_empty lines ≡ false

@@ -1,5 +1,5 @@
 -- One step behind another, taken apart and put together.
-use Rattle.std.proofs.Common.{◌≡◌, ◌⊎◌, inl, inr, ℕ, Bool, true, false, cond, List, [], ◌∷◌, Option, Some, None, Result, Ok, Err, refl, ap, sym, ◌∙◌}
+use Rattle.std.proofs.Common.{◌≡◌, ◌⊎◌, inl, inr, ℕ, List, [], ◌∷◌, Option, Some, None, Result, Ok, Err, refl, ap, sym}
 use Rattle.tx_read.specs.Answer.{or_refused}
 use Rattle.tx_read.specs.Reading.{◌>>=◌}
 use Rattle.tx_pilot.specs.declared.fault.LineKind.{LineKind}

@@ -1,14 +1,12 @@
 -- The readers of single words give exactly the words of their grammars.
 use Rattle.std.proofs.lemmas.Bool.{and_parts, and_from, false≢true, le-leb, leb-true}
 use Rattle.std.proofs.Common.{◌≡◌, ◌≢◌, ◌⊎◌, inl, inr, ℕ, ◌≤◌, ◌==◌, ◌&&◌, Bool, true, false, cond, not, nat_le, List, [], ◌∷◌, ◌++◌, length, Option, Some, None, Result, Ok, Err, option_and_then, codes, refl, ap, ap₂, sym, subst, ◌∙◌, length-append, arith}
-use Rattle.std.specs.Char.{is_ascii_digit}
 use Rattle.std.specs.List.{list_all}
 use Rattle.std.specs.Str.{is_utf8}
 use Rattle.tx_read.specs.Answer.{or_refused}
-use Rattle.tx_read.specs.Number.{number_at_most, is_number, value}
+use Rattle.tx_read.specs.Number.{is_number, value}
 use Rattle.tx_read.specs.Pieces.{behind}
 use Rattle.tx_read.specs.Reading.{◌>>=◌, in_turn}
-use Rattle.tx_tree.specs.declared.bind.Key.{Key}
 use Rattle.tx_tree_file.specs.Parts.{word, past_word, quoted, key_of}
 use Rattle.tx_tree_file.specs.TreeReading.{is_empty}
 use Rattle.tx_tree_file.specs.Words.{no_blank, Stops, IsKeyName, in_quotes, IsQuoted}
@@ -21,7 +19,7 @@ use Rattle.tx_pilot.specs.declared.fault.LineKind.{LineKind}
 use Rattle.tx_pilot.specs.declared.fault.LineKind.TheVariants.{Expected, BadKey, BadNumber, BadSelector}
 use Rattle.tx_pilot.specs.LineReading.{spaced, some_word, word_at, with_rest, key_at, at_least, number_in, number_at, utf8_of, string_of, string_at, selector_or, target_at}
 use Rattle.tx_pilot.specs.Lines.{Next, KeyFault, NumberFault, TargetFault, NoFault}
-use Rattle.tx_pilot.specs.Words.{IsNumber, IsString, IsTarget, IsWord, NoWord, NoSelector}
+use Rattle.tx_pilot.specs.Words.{IsNumber, IsString, IsTarget, IsWord, NoWord}
 use Rattle.tx_pilot.proofs.Describe.{Describes, Blank}
 use Rattle.tx_pilot.proofs.Steps.{ok-same, err-same, ok-err, err-ok, bind-ok, bind-err, refused-ok, refused-err}
 

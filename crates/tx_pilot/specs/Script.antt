@@ -1,5 +1,5 @@
 -- What a script spells, and its first line that breaks a rule.
-use Rattle.std.specs.Prelude.{◌≡◌, ◌≢◌, ◌⊎◌, ◌≤◌, ◌<◌, ◌+◌, ℕ, true, List, [], ◌∷◌, ◌++◌, length, flat_map, Option, Some, None, codes, option_to_list}
+use Rattle.std.specs.Prelude.{◌≡◌, ◌≢◌, ◌⊎◌, ◌≤◌, ◌<◌, ◌+◌, ℕ, true, List, [], ◌∷◌, ◌++◌, length, flat_map, Option, codes, option_to_list}
 use Rattle.std.specs.List.{list_all}
 use Rattle.tx_tree.specs.Spelled.{no_line_feed}
 use Rattle.tx_tree_file.specs.FirstFault.{is_line_end}

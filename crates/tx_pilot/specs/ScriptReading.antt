@@ -1,5 +1,5 @@
 -- How a script is read, line by line.
-use Rattle.std.specs.Prelude.{◌≡◌, ℕ, ◌+◌, Bool, true, false, nat_le, nat_lt, List, [], ◌∷◌, ◌++◌, length, Option, Some, None, Result, Ok, Err, option_to_list, if◌then◌else◌}
+use Rattle.std.specs.Prelude.{ℕ, ◌+◌, nat_le, nat_lt, List, [], ◌∷◌, ◌++◌, length, Option, Some, None, Result, Ok, Err, option_to_list, if◌then◌else◌}
 use Rattle.tx_read.specs.Pieces.{pieces}
 use Rattle.tx_tree_file.specs.TreeReading.{is_empty}
 use Rattle.tx_route.specs.declared.input.Input.{Input}

@@ -1,5 +1,5 @@
 -- The words with which lines begin.
-use Rattle.std.specs.Prelude.{ℕ, List, [], ◌∷◌, Option, Some, None, find, codes, bytes_eq, if◌then◌else◌}
+use Rattle.std.specs.Prelude.{ℕ, List, [], ◌∷◌, Option, None, find, codes, bytes_eq, if◌then◌else◌}
 use Rattle.std.specs.Str.{is_utf8}
 use Rattle.tx_pilot.specs.declared.verb.Verb.{Verb}
 use Rattle.tx_pilot.specs.declared.verb.Verb.TheVariants.{Press, Click, Hover, Pause, Resize, Class, Text, Style, Disable, Enable, Mount, Remove, Before, Advance, Theme}

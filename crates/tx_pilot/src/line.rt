@@ -60,11 +60,11 @@ pub fn read_line(alloc: Global, line: &[u8]) -> Result<Option<Input>, LineFault>
     requires { length line.now < 2 ^ 32 }
     // What is read is what the line spells.
     ensures found { IfOk result (λ read. Spells line.now read) }
-    // What it spells is read, unless memory is wanting.
+    // What it spells is read, unless out of memory.
     ensures only { (read : Option Input) → Spells line.now read → Gives (λ read. read) told result (Ok read) }
     // A fault is the first rule that it breaks.
     ensures fault { IfErr result (λ fault. IsFaultOf line.now fault) }
-    // And that rule is told, unless memory is wanting.
+    // And that rule is reported, unless out of memory.
     ensures refused { (kind : LineKind) → Breaks line.now kind → Gives (λ read. read) told result (Err kind) }
     ensures exact { Gives (λ read. read) told result (line_of line.now) }
 {

@@ -125,11 +125,11 @@ pub fn read_script(alloc: Global, bytes: &[u8]) -> Result<Track, ScriptFault>
     requires { length bytes.now < 2 ^ 32 }
     // What is read is what the script spells.
     ensures found { IfOk result (λ track. IsScript bytes.now track.inputs) }
-    // What it spells is read, unless memory is wanting.
+    // What it spells is read, unless out of memory.
     ensures only { (inputs : List Input) → IsScript bytes.now inputs → Gives (λ track. track.inputs) told result (Ok inputs) }
     // A fault is that of the first line that breaks a rule.
     ensures fault { IfErr result (λ fault. IsFaultOf bytes.now fault) }
-    // And that line is told, unless memory is wanting.
+    // And that line is reported, unless out of memory.
     ensures refused { (line : ℕ) (kind : LineKind) → IsFirstFault bytes.now line kind → Gives (λ track. track.inputs) told result (Err (line, kind)) }
     ensures exact { Gives (λ track. track.inputs) told result (script_of bytes.now) }
 {

@@ -60,7 +60,8 @@ pause|~|jump => 2 BadByte\n\
 pause|resize 0 1 => 2 BadNumber\n\
 pause|  => 2 Expected\n\
 style '#s' {color: red;} => SetInline 1:#s [color: red;];\n\
-pause|\r|pause => 2 Expected",
+pause|\r|pause => 2 Expected\n\
+press down|press tab|press x|hover '#new'|press tab|press enter|class '#main' +busy|advance '#load' 10|text '.title' 'Sites'|style '#side' { }|press ctrl+d|resize 40 12| => Press Down;Press Tab;Press Char('x');Hover 1:#new;Press Tab;Press Enter;AddClass 1:#main busy;Advance 1:#load 10;SetText 1:.title [Sites];SetInline 1:#side [ ];Press Ctrl(100);Resize 40 12;",
         |given| answer(alloc, given),
     )
 }

@@ -1,4 +1,4 @@
-use Rattle.std.proofs.Common.{◌≡◌, ◌≤◌, ◌+◌, length}
+use Rattle.std.proofs.Common.{◌≤◌, ◌+◌, length}
 use Rattle.tx_pilot.proofs.ScriptSteps.{So}
 use Rattle.tx_pilot.proofs.script.read_lines.Given as goal
 
