@@ -1,13 +1,15 @@
 -- Places along an axis: how far they can come.
-use Rattle.std.proofs.Common.{◌≡◌, ℕ, suc, ◌+◌, ◌*◌, ◌^◌, ◌<◌, ◌≤◌, arith, ℤ, pos, negsuc, to_z, of_z, w64}
-use Rattle.std.specs.Prelude.{◌+ℤ◌, ◌*ℤ◌, ◌≤ℤ◌, ◌<ℤ◌}
+use Rattle.std.proofs.Common.{◌≡◌, ℕ, suc, List, length, ◌+◌, ◌*◌, ◌^◌, ◌<◌, ◌≤◌, arith, ℤ, pos, negsuc, to_z, of_z, w64}
+use Rattle.std.specs.Prelude.{◌+ℤ◌, ◌*ℤ◌, ◌≤ℤ◌, ◌<ℤ◌, All, slice_index}
 use Rattle.std.specs.Int.{w128}
+use Rattle.std.proofs.lemmas.List.Elements.{All-get_or}
 use Rattle.std.proofs.lemmas.Int.{ints, to_z-of_z}
 use Rattle.std.proofs.Math.Nat.{le_of_mul-le-mul_right, lt_of_mul-lt-mul_right, mul-le-mul_right, mul-lt-mul_of_pos_right, mul-pos}
 use mir.Val.{SFits}
 use Rattle.tx_frac.specs.Ratio.{Ratio, IsRatio, sum_num}
 use Rattle.tx_box.specs.Sizes.{cells}
-use Rattle.tx_box.specs.Shape.{IsUpTo, IsCellCount}
+use Rattle.tx_box.specs.Shape.{EndsBy, IsUpTo, IsCellCount}
+use Rattle.tx_box.specs.declared.items.Span.{Span}
 use Rattle.tx_box.proofs.Floors.{IsFloor, floor_from_zero}
 
 -- the sum of a/b, at most m, and c/d, at most n, is z/e, at most m + n
@@ -101,3 +103,17 @@ cells_between x size end f g m n hx hs h hf hg =
     let r = apart_from_zero x.num size.num end.num x.den size.den end.den n f g hx.positive hs.positive u.positive hx.not_negative hs.not_negative u.not_negative p.0 q.0 hs.at_most h.same
     hf.below hf.greatest hg.below hg.greatest in
     record { not_negative = p.0; forward = r.0; at_most = r.1; far = q.1 }
+
+-- ---- how far spans come
+
+pub ends_later : (m n : ℕ) (s : Span) → m ≤ n → EndsBy m s → EndsBy n s
+ends_later m n s h e = omega (arith, ints, h, e)
+
+-- the end of the item at i, with all gaps and sizes up to there, is within those of all items
+pub steps_within : (most i count : ℕ) → i < count → most + (65535 + most) * i + 65535 ≤ (65535 + most) * count
+steps_within most i count h =
+    let p : (i + 1) * (65535 + most) ≤ count * (65535 + most) = mul-le-mul_right (65535 + most) (let q : i + 1 ≤ count = omega arith in q) in
+    omega arith
+
+pub gap_at : (gaps : List ℕ) (i most : ℕ) → i < length gaps → All (λ gap. gap ≤ most) gaps → slice_index gaps i ≤ most
+gap_at gaps i most h all = All-get_or (λ gap. gap ≤ most) gaps i 0 h all

@@ -1,5 +1,5 @@
 -- What the parts of a layout are between two steps.
-use Rattle.std.specs.Prelude.{ℕ, ◌<◌, ◌*◌, ◌^◌, pos, ◌+ℤ◌, ◌≤ℤ◌, IfSome}
+use Rattle.std.specs.Prelude.{ℕ, ◌+◌, ◌<◌, ◌≤◌, ◌*◌, ◌^◌, pos, ◌+ℤ◌, ◌≤ℤ◌, IfSome, List, length, All}
 use Rattle.tx_frac.specs.Ratio.{Ratio}
 use Rattle.tx_box.specs.Item.{NotNegative}
 use Rattle.tx_box.specs.declared.items.Span.{Span}
@@ -33,6 +33,14 @@ IsPart (Growing s l) = NotNegative s × AreLimits l
 abbrev pub IsSettledPart : Part → Type 0
 IsSettledPart (Settled c) = IsCellCount c
 IsSettledPart (Growing s l) = ⊥
+
+-- cells that end no later than n
+abbrev pub EndsBy : ℕ → Span → Type 0
+EndsBy n s = s.to ≤ℤ pos n
+
+-- where gaps have at most so many cells, spans end no later than with such gaps and the greatest sizes
+abbrev pub AreNear : List ℕ → List Span → Type 0
+AreNear gaps spans = (most : ℕ) → All (λ gap. gap ≤ most) gaps → All (EndsBy ((65535 + most) * length spans)) spans
 
 -- cells as an axis gives them: from 0 on, at most 65,535 of them, and none past 2^58
 pub record IsSpan (s : Span) : Type 0 where

@@ -4,7 +4,7 @@ ghost use Rattle.std.specs.Prelude.{◌≡◌, ℕ, ◌+◌, ◌*◌, ◌^◌, �
 ghost use Rattle.std.specs.List.{zip};
 ghost use Rattle.tx_box.specs.Item.{IsSized};
 ghost use Rattle.tx_box.specs.Sizes.{cells};
-ghost use Rattle.tx_box.specs.Shape.{IsCellCount, IsPart, IsSettledPart, IsSpan, IsUpTo};
+ghost use Rattle.tx_box.specs.Shape.{AreNear, EndsBy, IsCellCount, IsPart, IsSettledPart, IsSpan, IsUpTo};
 ghost use Rattle.tx_box.specs.Axis.{settled_sizes, sizes_of, placed, spans_from, axis_spans, IsCause};
 
 use crate::items::{Basis, Item, LayoutFault, Span};
@@ -24,7 +24,8 @@ use tx_geom::{Axis, Size};
 /// Items with a size of their own get it. What is then left of the area is given to the shares in
 /// `fr`, where an item that its limits keep from its share gets the limit, and the others share
 /// the rest. The ends of the spans are rounded down, and not the sizes, so that no cell is lost.
-/// There is a span for each item, it has at most 65,535 cells, and none lies before 0 or past 2^58.
+/// There is a span for each item, it has at most 65,535 cells, and none lies before 0 or past 2^58;
+/// nor does one end later than so many items of 65,535 cells, each with the greatest of the gaps.
 ///
 /// It is refused exactly where one of the fractions on the way is, and where there is no memory.
 #[tactic(auto, unfolding(crate::specs::Axis::axis_sizes, crate::specs::Axis::axis_spans))]
@@ -43,6 +44,7 @@ pub fn resolve_axis(
     ensures spans { IfOk result (λ spans. axis_spans items.now gaps.now axis basis own.now ≡ Some spans.items) }
     ensures cells { IfOk result (λ spans. All IsSpan spans.items) }
     ensures count { IfOk result (λ spans. length spans.items ≡ length items.now) }
+    ensures near { IfOk result (λ spans. AreNear gaps.now spans.items) }
     ensures refused { IfErr result (IsCause axis (axis_spans items.now gaps.now axis basis own.now ≡ None)) }
 {
     let mut parts = parts_of(alloc, items, axis, basis, own)?;
@@ -91,6 +93,7 @@ fn place(alloc: Global, parts: &[Part], gaps: &[u32], axis: Axis) -> Result<Vec<
         ≡ Some spans.items) }
     ensures cells { IfOk result (λ spans. All IsSpan spans.items) }
     ensures count { IfOk result (λ spans. length spans.items ≡ length parts.now) }
+    ensures near { IfOk result (λ spans. AreNear gaps.now spans.items) }
     ensures refused { IfErr result
         (IsCause axis (spans_from (cells (slice_index gaps.now 0)) (zip (settled_sizes parts.now) (drop 1 gaps.now)) ≡ None)) }
 {
@@ -125,7 +128,8 @@ fn place_one(from: Frac, size: Frac, gap: u32) -> Option<(Span, Frac)>
     requires size { IsCellCount size }
     ensures exact { result ≡ placed from size gap }
     ensures span { IfSome result (λ x. IsSpan x.0) }
-    ensures next { IfSome result (λ x. (n : ℕ) → IsUpTo n from → IsUpTo (n + 2 ^ 33) x.1) }
+    ensures near { IfSome result (λ x. (n : ℕ) → IsUpTo n from → EndsBy (n + 65535) x.0) }
+    ensures next { IfSome result (λ x. (n : ℕ) → IsUpTo n from → IsUpTo (n + 65535 + gap) x.1) }
 {
     let end = from.add(size)?;
     let next = end.add(Frac::whole(gap as i64))?;

@@ -5,7 +5,7 @@ use Rattle.std.specs.List.{range_with_len}
 use Rattle.std.proofs.lemmas.Int.{ints}
 use Rattle.tx_box.specs.declared.items.Span.{Span}
 use Rattle.tx_box.specs.Laws.{Follow}
-use Rattle.tx_box.specs.Shape.{IsSpan}
+use Rattle.tx_layout.specs.Children.{IsNearSpan}
 use Rattle.tx_layout.specs.Grid.{AreTracks, track_gap, track_gaps}
 
 gap_if : (b : Bool) (gutter : ℕ) → (if b then 0 else gutter) ≤ gutter
@@ -17,7 +17,7 @@ gaps_at gutter count a zero k = omega arith
 gaps_at gutter count a (suc n) zero = gap_if ((a == 0) || (a == count)) gutter
 gaps_at gutter count a (suc n) (suc k) = gaps_at gutter count (a + 1) n k
 
-pub follow_tracks : (gutter count : ℕ) (spans : List Span) → gutter ≤ 9999 → All IsSpan spans → Follow (track_gaps gutter count) spans → AreTracks spans
+pub follow_tracks : (gutter count : ℕ) (spans : List Span) → gutter ≤ 9999 → All IsNearSpan spans → Follow (track_gaps gutter count) spans → AreTracks spans
 follow_tracks gutter count spans few each h =
     record {
       each = each;
@@ -33,7 +33,8 @@ pub record Reach (n : ℕ) (first last : Span) : Type 0 where
 
 pub reach : (spans : List Span) (i n : ℕ) (d : Span) → AreTracks spans → i + n < length spans → Reach (n + 1) (slice_index_or spans i d) (slice_index_or spans (i + n) d)
 reach spans i zero d h within =
-    let one = h.each i d (omega arith) in
+    let near = h.each i d (omega arith) in
+    let one = near.span in
     let p = one.forward in
     let q = one.at_most in
     subst (λ (m : ℕ). Reach 1 (slice_index_or spans i d) (slice_index_or spans m d)) (let e : i ≡ i + 0 = omega arith in e)
@@ -41,7 +42,8 @@ reach spans i zero d h within =
 reach spans i (suc n) d h within =
     let before = reach spans i n d h (omega arith) in
     let step = h.next (i + n) d (omega arith) in
-    let one = h.each (i + n + 1) d (omega arith) in
+    let near = h.each (i + n + 1) d (omega arith) in
+    let one = near.span in
     let at : slice_index_or spans (i + n + 1) d ≡ slice_index_or spans (i + suc n) d = ap (λ (m : ℕ). slice_index_or spans m d) (let e : i + n + 1 ≡ i + suc n = omega arith in e) in
     let a = before.forward in
     let b = before.near in
@@ -55,7 +57,7 @@ reach spans i (suc n) d h within =
 -- so many tracks from one on
 pub record Over (first last : Span) : Type 0 where
   pub low : pos 0 ≤ℤ first.from
-  pub far : first.from ≤ℤ pos (2 ^ 58)
+  pub far : first.from ≤ℤ pos (2 ^ 41)
   pub forward : first.from ≤ℤ last.to
   pub near : last.to ≤ℤ (first.from +ℤ pos 7553400)
 
@@ -65,10 +67,11 @@ near_more n x y few h = omega (arith, ints)
 pub over_tracks : (spans : List Span) (first count : ℕ) (d : Span) → AreTracks spans → 1 ≤ count → count ≤ 100 → first + count ≤ length spans → Over (slice_index_or spans first d) (slice_index_or spans (first + count - 1) d)
 over_tracks spans first count d h some few within =
     let r = reach spans first (count - 1) d h (omega arith) in
-    let one = h.each first d (omega arith) in
+    let near = h.each first d (omega arith) in
+    let one = near.span in
     let low = one.not_negative in
     let up = one.forward in
-    let far = one.far in
+    let far = near.near in
     let at : slice_index_or spans (first + (count - 1)) d ≡ slice_index_or spans (first + count - 1) d = ap (λ (m : ℕ). slice_index_or spans m d) (let e : first + (count - 1) ≡ first + count - 1 = omega arith in e) in
     record {
       low = low;
@@ -81,3 +84,8 @@ over_tracks spans first count d h some few within =
 pub if_both : {R E : Type 0} (P Q S : R → Type 0) → ((x : R) → P x → Q x → S x) → (r : Result R E) → IfOk r P → IfOk r Q → IfOk r S
 if_both P Q S f (Ok x) p q = f x p q
 if_both P Q S f (Err e) p q = tt
+
+-- a fact of three clauses on one result
+pub if_three : {R E : Type 0} (P Q S T : R → Type 0) → ((x : R) → P x → Q x → S x → T x) → (r : Result R E) → IfOk r P → IfOk r Q → IfOk r S → IfOk r T
+if_three P Q S T f (Ok x) p q s = f x p q s
+if_three P Q S T f (Err e) p q s = tt

@@ -11,3 +11,4 @@ pub mod Frames
 pub mod InTracks
 pub mod Agreeing
 pub mod Filling
+pub mod Reaching

@@ -1,5 +1,5 @@
 -- The arrangement of the children of a container, and the sizes that it asks for itself.
-use Rattle.std.specs.Prelude.{ℕ, ◌+◌, ◌-◌, ◌*◌, ◌/◌, ◌==◌, ℤ, pos, ◌+ℤ◌, ◌-ℤ◌, Option, Some, None, List, [], ◌∷◌, ◌++◌, length, map, Result, Ok, min, if◌then◌else◌}
+use Rattle.std.specs.Prelude.{ℕ, ◌+◌, ◌-◌, ◌*◌, ◌/◌, ◌==◌, ℤ, pos, ◌+ℤ◌, ◌-ℤ◌, ◌≤ℤ◌, ◌^◌, neg_ℤ, All, IfSome, Option, Some, None, List, [], ◌∷◌, ◌++◌, length, map, Result, Ok, min, if◌then◌else◌}
 use Rattle.std.specs.List.{flat_map, range_with_len}
 use Rattle.std.specs.Option.{option_or}
 use Rattle.tx_read.specs.Reading.{◌>>=◌}
@@ -189,6 +189,19 @@ wide meaning kind grid styles area screen = asked_layers meaning kind grid Width
 abbrev pub tall : (Ask → Option ℕ) → LayoutKind → GridStyle → List BoxStyle → ℕ → Size → Size → Result ℕ Axis
 tall meaning kind grid styles width area screen =
     asked_layers meaning kind grid Height (basis_of (record { width = width; height = area.height }) screen) (layers (numbered 0 styles))
+
+-- ---- bounds
+
+-- a region whose corner lies within 2^44 cells of the place that it is counted from
+pub record IsWithinReach (r : Region) : Type 0 where
+  pub left : neg_ℤ (pos (2 ^ 44)) ≤ℤ r.x
+  pub right : r.x ≤ℤ pos (2 ^ 44)
+  pub up : neg_ℤ (pos (2 ^ 44)) ≤ℤ r.y
+  pub down : r.y ≤ℤ pos (2 ^ 44)
+
+-- each region that there is lies within reach
+abbrev pub AreWithinReach : List (Option Region) → Type 0
+AreWithinReach placed = All (λ r. IfSome r IsWithinReach) placed
 
 -- ---- what a call gives
 

@@ -3,15 +3,26 @@ use Rattle.std.specs.Prelude.{ℕ, ◌+◌, ◌<◌, ◌==◌, ◌≤◌, ◌^�
 use Rattle.std.specs.List.{filter}
 use Rattle.tx_geom.specs.declared.choices.Edge.{Edge}
 use Rattle.tx_geom.specs.declared.choices.Edge.TheVariants.{Top, Right, Bottom, Left}
+use Rattle.tx_box.specs.declared.items.Span.{Span}
+use Rattle.tx_box.specs.Shape.{EndsBy, IsSpan}
 use Rattle.tx_layout.specs.declared.styles.BoxStyle.{BoxStyle}
 use Rattle.tx_layout.specs.declared.children.Child.{Child}
 use Rattle.tx_layout.specs.declared.children.Side.{Side}
 use Rattle.tx_layout.specs.Style.{IsBoxStyle}
 
--- cells that begin before 2^58, and a margin behind that
+-- cells that begin before 2^41, and a margin behind that
 pub record IsSide (s : Side) : Type 0 where
-  pub from : s.from ≤ 2 ^ 58 + 65535
+  pub from : s.from ≤ 2 ^ 41 + 65535
   pub size : s.size < 2 ^ 32
+
+-- a gap between children: a margin or a gutter
+abbrev pub IsGap : ℕ → Type 0
+IsGap gap = gap ≤ 65535
+
+-- a span as an axis gives it, that ends before 2^41
+pub record IsNearSpan (s : Span) : Type 0 where
+  pub span : IsSpan s
+  pub near : EndsBy (2 ^ 41) s
 
 -- one of so many children, with a style that the calls accept
 pub record IsChild (count : ℕ) (c : Child) : Type 0 where

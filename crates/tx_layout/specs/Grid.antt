@@ -16,7 +16,6 @@ use Rattle.tx_box.specs.declared.items.Item.{Item}
 use Rattle.tx_box.specs.declared.items.Basis.{Basis}
 use Rattle.tx_box.specs.declared.items.Span.{Span}
 use Rattle.tx_box.specs.Axis.{axis_spans}
-use Rattle.tx_box.specs.Shape.{IsSpan}
 use Rattle.tx_grid.specs.declared.places.Cells.{Cells}
 use Rattle.tx_grid.specs.declared.places.Spans.{Spans}
 use Rattle.tx_grid.specs.Standing.{standing, rows_used}
@@ -25,7 +24,7 @@ use Rattle.tx_layout.specs.declared.styles.GridStyle.{GridStyle}
 use Rattle.tx_layout.specs.declared.children.Child.{Child}
 use Rattle.tx_layout.specs.declared.children.Framed.{Framed}
 use Rattle.tx_layout.specs.declared.children.Side.{Side}
-use Rattle.tx_layout.specs.Children.{IsChild}
+use Rattle.tx_layout.specs.Children.{IsChild, IsNearSpan}
 use Rattle.tx_layout.specs.Line.{Flow}
 use Rattle.tx_layout.specs.Sides.{across_one, basis_of, count_of, side_in, with_side}
 use Rattle.tx_layout.specs.Steps.{each_of}
@@ -166,7 +165,7 @@ grid_extent grid Height basis cs = rows_end grid basis cs
 
 -- tracks as they come from an axis: each begins behind the one before it, and a gutter of at most 9,999 cells
 pub record AreTracks (spans : List Span) : Type 0 where
-  pub each : All IsSpan spans
+  pub each : All IsNearSpan spans
   pub next : (n : ℕ) (d : Span) → n + 1 < length spans
       → (gutter : ℕ) × (gutter ≤ 9999) × ((slice_index_or spans (n + 1) d).from ≡ (slice_index_or spans n d).to +ℤ pos gutter)
 
@@ -179,9 +178,9 @@ pub record AreInTracks (columns rows : List Span) (cells : Cells) : Type 0 where
   pub few_rows : cells.rows ≤ 100
   pub in_rows : cells.row + cells.rows ≤ length rows
 
--- cells that lie before 2^58
+-- cells that lie before 2^41
 pub record IsFrame (s : Side) : Type 0 where
-  pub from : s.from ≤ 2 ^ 58
+  pub from : s.from ≤ 2 ^ 41
   pub size : s.size < 2 ^ 32
 
 pub record IsFramed (count : ℕ) (f : Framed) : Type 0 where

@@ -24,8 +24,8 @@ seen_flow flow = record { children = flow.children.items; wide = flow.wide; tall
 -- the flow of so many children
 pub record IsFlow (count : ℕ) (flow : LaidFlow) : Type 0 where
   pub children : All (IsChild count) flow.children.items
-  pub wide : flow.wide < 2 ^ 59
-  pub tall : flow.tall < 2 ^ 59
+  pub wide : flow.wide < 2 ^ 42
+  pub tall : flow.tall < 2 ^ 42
 
 -- ---- children that follow each other
 

@@ -70,9 +70,9 @@ last_end axis cs = unwrap_or (last_or None (map (outer_end axis) cs)) 0
 unfoldable pub extent : Option Axis → Axis → List Child → ℕ
 extent main axis cs = if is_main main axis then last_end axis cs else greatest (map (outer_end axis) cs)
 
--- edges of fewer than 2^59 cells
+-- edges of fewer than 2^42 cells
 pub record IsEdges (e : Edges) : Type 0 where
-  pub top : e.top < 2 ^ 59
-  pub right : e.right < 2 ^ 59
-  pub bottom : e.bottom < 2 ^ 59
-  pub left : e.left < 2 ^ 59
+  pub top : e.top < 2 ^ 42
+  pub right : e.right < 2 ^ 42
+  pub bottom : e.bottom < 2 ^ 42
+  pub left : e.left < 2 ^ 42

@@ -81,7 +81,7 @@ base s area = less area s.margin
 abbrev pub inner : BoxStyle → Size → Size
 inner s area = less (base s area) s.gutter
 
--- a place within 2^61 cells before and behind
+-- a place within 2^44 cells before and behind, less an offset
 pub record IsNearStart (z : ℤ) : Type 0 where
-  pub low : neg_ℤ (pos (2 ^ 61)) ≤ℤ z
-  pub high : z ≤ℤ pos (2 ^ 61)
+  pub low : neg_ℤ (pos 17592186034417) ≤ℤ z
+  pub high : z ≤ℤ pos 17592186034417

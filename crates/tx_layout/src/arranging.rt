@@ -1,6 +1,6 @@
 //! The arrangement of the children of one container.
 
-ghost use Rattle.std.specs.Prelude.{◌≡◌, ◌+◌, ◌-◌, ◌<◌, ◌≤◌, ◌^◌, ℕ, ℤ, pos, ◌+ℤ◌, length, All, IfOk, IfErr, Option, None, List, [], ◌∷◌, ◌++◌};
+ghost use Rattle.std.specs.Prelude.{◌≡◌, ◌+◌, ◌-◌, ◌<◌, ◌≤◌, ◌^◌, ℕ, ℤ, pos, neg_ℤ, ◌+ℤ◌, ◌≤ℤ◌, length, All, IfOk, IfErr, Option, None, List, [], ◌∷◌, ◌++◌};
 ghost use Rattle.std.specs.List.{FoldsTo};
 ghost use Rattle.tx_read.specs.Answer.{Gives};
 ghost use Rattle.tx_io.specs.declared.steps.Tick.TheVariants.{Arranged};
@@ -9,7 +9,7 @@ ghost use Rattle.tx_layout.specs.Style.{IsBoxStyle, IsGridStyle, IsNearStart, Is
 ghost use Rattle.tx_layout.specs.Children.{IsChild, docked, flow, runs};
 ghost use Rattle.tx_layout.specs.Room.{IsEdges, edges_of, inside};
 ghost use Rattle.tx_layout.specs.Line.{IsFlow, seen_flow};
-ghost use Rattle.tx_layout.specs.Arrangement.{laid_docked, flow_setting, docked_x, docked_y, region_at, docked_region, flow_region, halves_x, halves_y, shift, Layer, start_x, start_y, at_edges, in_flow, past, over_of, layer_in, arranged_layer, arranged_next, placed_by, over_all, together, arranged_layers, arranged, seen};
+ghost use Rattle.tx_layout.specs.Arrangement.{laid_docked, flow_setting, docked_x, docked_y, region_at, docked_region, flow_region, IsWithinReach, AreWithinReach, halves_x, halves_y, shift, Layer, start_x, start_y, at_edges, in_flow, past, over_of, layer_in, arranged_layer, arranged_next, placed_by, over_all, together, arranged_layers, arranged, seen};
 
 use crate::children::{Child, Laid, LaidFlow, Setting};
 use crate::flows::flow_of;
@@ -91,7 +91,9 @@ fn docked_y(child: &Child, area: Size, count: u32) -> i64
 fn moved(at: i64, by: i64) -> i64
     requires at { IsNearStart at }
     requires by { IsShift by }
-    ensures { result ≡ at +ℤ by }
+    ensures exact { result ≡ at +ℤ by }
+    ensures low { neg_ℤ (pos (2 ^ 44)) ≤ℤ result }
+    ensures high { result ≤ℤ pos (2 ^ 44) }
 {
     at + by
 }
@@ -101,7 +103,8 @@ fn region_at(x: i64, y: i64, child: &Child, count: u32) -> Region
     requires child { IsChild count child.now }
     requires x { IsNearStart x }
     requires y { IsNearStart y }
-    ensures { result ≡ region_at x y child.now }
+    ensures exact { result ≡ region_at x y child.now }
+    ensures near { IsWithinReach result }
 {
     Region {
         x: moved(x, child.style.offset.x),
@@ -115,7 +118,8 @@ fn region_at(x: i64, y: i64, child: &Child, count: u32) -> Region
 #[tactic(auto, unfolding(crate::specs::Arrangement::docked_region))]
 fn docked_region(child: &Child, area: Size, count: u32) -> Region
     requires { IsChild count child.now }
-    ensures { result ≡ docked_region area child.now }
+    ensures exact { result ≡ docked_region area child.now }
+    ensures near { IsWithinReach result }
 {
     region_at(
         docked_x(child, area, count),
@@ -129,9 +133,10 @@ fn docked_region(child: &Child, area: Size, count: u32) -> Region
 #[tactic(auto, unfolding(crate::specs::Arrangement::flow_region))]
 fn flow_region(child: &Child, left: u64, top: u64, count: u32) -> Region
     requires child { IsChild count child.now }
-    requires left { left < 2 ^ 60 }
-    requires top { top < 2 ^ 60 }
-    ensures { result ≡ flow_region left top child.now }
+    requires left { left < 2 ^ 43 }
+    requires top { top < 2 ^ 43 }
+    ensures exact { result ≡ flow_region left top child.now }
+    ensures near { IsWithinReach result }
 {
     let x = (left + child.wide.from) as i64;
     let y = (top + child.tall.from) as i64;
@@ -181,8 +186,10 @@ fn past(room: u32, extent: u64) -> u32
 fn put_docked(placed: &mut [Option<Region>], children: &[Child], area: Size, count: u32)
     requires children { All (IsChild count) children.now }
     requires count { length placed.old ≡ count }
+    requires near { AreWithinReach placed.old }
     ensures exact { (done : List (ℕ × Region)) → placed.old ≡ placed_by count done → placed.new ≡ placed_by count (done ++ at_edges area children.now) }
     ensures count { length placed.new ≡ count }
+    ensures near { AreWithinReach placed.new }
 {
     for child in children {
         placed[child.place as usize] = Some(docked_region(child, area, count));
@@ -193,10 +200,12 @@ fn put_docked(placed: &mut [Option<Region>], children: &[Child], area: Size, cou
 fn put_flow(placed: &mut [Option<Region>], children: &[Child], left: u64, top: u64, count: u32)
     requires children { All (IsChild count) children.now }
     requires count { length placed.old ≡ count }
-    requires left { left < 2 ^ 60 }
-    requires top { top < 2 ^ 60 }
+    requires near { AreWithinReach placed.old }
+    requires left { left < 2 ^ 43 }
+    requires top { top < 2 ^ 43 }
     ensures exact { (done : List (ℕ × Region)) → placed.old ≡ placed_by count done → placed.new ≡ placed_by count (done ++ in_flow left top children.now) }
     ensures count { length placed.new ≡ count }
+    ensures near { AreWithinReach placed.new }
 {
     for child in children {
         placed[child.place as usize] = Some(flow_region(child, left, top, count));
@@ -208,7 +217,7 @@ fn start_x(align: AlignX, edges: Edges, room: Size, flow: &LaidFlow, count: u32)
     requires edges { IsEdges edges }
     requires flow { IsFlow count flow.now }
     ensures exact { result ≡ start_x align edges room (seen_flow flow.now) }
-    ensures bound { result < 2 ^ 60 }
+    ensures bound { result < 2 ^ 43 }
 {
     edges.left + shift(halves_x(align), room.width, flow.wide)
 }
@@ -218,7 +227,7 @@ fn start_y(align: AlignY, edges: Edges, room: Size, flow: &LaidFlow, count: u32)
     requires edges { IsEdges edges }
     requires flow { IsFlow count flow.now }
     ensures exact { result ≡ start_y align edges room (seen_flow flow.now) }
-    ensures bound { result < 2 ^ 60 }
+    ensures bound { result < 2 ^ 43 }
 {
     edges.top + shift(halves_y(align), room.height, flow.tall)
 }
@@ -247,9 +256,11 @@ fn put_layer(
     requires flow { IsFlow count flow.now }
     requires edges { IsEdges edges }
     requires count { length laid.old.placed.items ≡ count }
+    requires near { AreWithinReach laid.old.placed.items }
     ensures exact { (done : List Layer) → seen laid.old ≡ together count done
         → seen laid.new ≡ together count (done ++ layer_in align area edges (inside edges area) docked.now (seen_flow flow.now) ∷ []) }
     ensures count { length laid.new.placed.items ≡ count }
+    ensures near { AreWithinReach laid.new.placed.items }
 {
     let room = edges.inside(area);
     let left = start_x(align.0, edges, room, flow, count);
@@ -276,11 +287,13 @@ fn arrange_layer<F: Fn(Ask) -> Result<u32, LayoutFault>>(
     requires children { All (IsChild setting.count) layer.now }
     requires count { length layer.now ≤ 65536 }
     requires places { length laid.old.placed.items ≡ setting.count }
+    requires near { AreWithinReach laid.old.placed.items }
     ensures exact { (meaning : Ask → Option ℕ)
         → Means (F.post measure.now) setting.count meaning
         → (done : List Layer) → seen laid.old ≡ together setting.count done
         → Gives (λ _. seen laid.new) told result (arranged_next meaning kind grid.now align setting.basis setting.count done layer.now) }
     ensures places { length laid.new.placed.items ≡ setting.count }
+    ensures near { AreWithinReach laid.new.placed.items }
 {
     let docked = laid_docked(alloc, layer, setting, measure)?;
     let edges = edges_of(&docked, setting.count);
@@ -316,7 +329,9 @@ fn arrange_layers<F: Fn(Ask) -> Result<u32, LayoutFault>>(
     requires count { length ordered.now ≤ 65536 }
     requires empty { seen laid.old ≡ together setting.count [] }
     requires places { length laid.old.placed.items ≡ setting.count }
-    ensures { (meaning : Ask → Option ℕ)
+    requires near { AreWithinReach laid.old.placed.items }
+    ensures near { AreWithinReach laid.new.placed.items }
+    ensures exact { (meaning : Ask → Option ℕ)
         → Means (F.post measure.now) setting.count meaning
         → Gives (λ _. seen laid.new) told result (arranged_layers meaning kind grid.now align setting.basis setting.count (runs ordered.now)) }
 {
@@ -335,6 +350,7 @@ fn arrange_layers<F: Fn(Ask) -> Result<u32, LayoutFault>>(
 fn unplaced(alloc: Global, count: u32) -> Result<Laid, LayoutFault>
     ensures exact { IfOk result (λ laid. seen laid ≡ together count []) }
     ensures places { IfOk result (λ laid. length laid.placed.items ≡ count) }
+    ensures near { IfOk result (λ laid. AreWithinReach laid.placed.items) }
     ensures refused { IfErr result (λ fault. told fault ≡ None) }
 {
     let nothing = Size {
@@ -361,9 +377,10 @@ fn arranged<F: Fn(Ask) -> Result<u32, LayoutFault>>(
     requires callable { (ask : Ask) → ask.child < length children.now → F.pre measure.now ask }
     requires styles { All IsBoxStyle children.now }
     requires count { length children.now ≤ 65536 }
-    ensures { (meaning : Ask → Option ℕ)
+    ensures exact { (meaning : Ask → Option ℕ)
         → Means (F.post measure.now) (length children.now) meaning
         → Gives (λ a. a) told result (arranged meaning kind grid.now align children.now basis.area basis.screen) }
+    ensures near { IfOk result (λ a. AreWithinReach a.placed) }
 {
     let ordered = by_layer(alloc, children)?;
     let count = children.len() as u32;
@@ -384,14 +401,17 @@ fn arranged<F: Fn(Ask) -> Result<u32, LayoutFault>>(
 
 /// Where the children of a container stand, and how far they go past the room for them.
 ///
-/// In each layer docked children stand at their edge of the whole area. Each edge takes as many
-/// cells as the largest of its children with its margins, and the others stand in what is left:
-/// below or beside each other, where between two of them the greater of their margins counts, or
-/// in the cells of a grid, each cut to the area of the tracks that it takes. Where they take less
-/// than that room they are aligned in it. At the end each child is moved by its offset. A child of
-/// a grid that finds no place among the rows that are given has no region.
+/// In each layer docked children stand at their edge of the whole area, those of one edge over each
+/// other. Each edge takes the greatest of the sizes of its children with their margins, and the
+/// others, the flow children, stand in what is left: below or beside each other, where between two
+/// of them the greater of their margins counts, or in the cells of a grid, each cut to what its
+/// margins leave of the tracks that it takes. Where they take less than that room, all of them move
+/// by the same number of cells, as `align` says. At the end each child is moved by its offset. A
+/// child of a grid that finds no place among the rows that are given has no region.
 ///
-/// `measure` is asked once for each size that is that of the content. The arrangement is refused
+/// The corner of each region lies within 2^44 cells of the corner of the area.
+///
+/// `measure` is asked for each size that is that of the content. The arrangement is refused
 /// exactly where a fraction on the way is, or a measure: the fault has the direction of the first
 /// such step, by the number of the layers, and in each layer by the widths of the docked children,
 /// their heights, the columns of a grid and its rows, the widths of the others, and their heights.
@@ -419,6 +439,7 @@ pub fn arrange<F: Fn(Ask) -> Result<u32, LayoutFault>, L: Ledger>(
     ensures arranged { (meaning : Ask → Option ℕ)
         → Means (F.post measure.now) (length children.now) meaning
         → Gives (λ a. a) told result (arranged meaning kind grid.now align children.now area screen) }
+    ensures near { IfOk result (λ a. AreWithinReach a.placed) }
     ensures ticked { FoldsTo L.ticked steps.old.ledger (Arranged ∷ []) steps.new.ledger }
 {
     steps.tick(Tick::Arranged);

@@ -81,7 +81,7 @@ fn line_extent<F: Fn(Ask) -> Result<u32, LayoutFault>>(
     ensures exact { (meaning : Ask → Option ℕ)
         → Means (F.post measure.now) setting.count meaning
         → Gives (λ n. n) told result (line_extent meaning setting.main axis setting.basis children.now) }
-    ensures bound { IfOk result (λ n. n < 2 ^ 59) }
+    ensures bound { IfOk result (λ n. n < 2 ^ 42) }
 {
     let sized = sized_for(alloc, children, axis, setting, measure)?;
     Ok(extent(&sized, setting.main, axis, setting.count))
@@ -147,7 +147,7 @@ fn extent_along<F: Fn(Ask) -> Result<u32, LayoutFault>>(
     ensures exact { (meaning : Ask → Option ℕ)
         → Means (F.post measure.now) setting.count meaning
         → Gives (λ n. n) told result (line_extent meaning (Some main) axis setting.basis children.now) }
-    ensures bound { IfOk result (λ n. n < 2 ^ 59) }
+    ensures bound { IfOk result (λ n. n < 2 ^ 42) }
 {
     let main = Some(main);
     line_extent(alloc, children, axis, Setting { main, ..setting }, measure)
@@ -170,7 +170,7 @@ pub fn flow_extent<F: Fn(Ask) -> Result<u32, LayoutFault>>(
     ensures exact { (meaning : Ask → Option ℕ)
         → Means (F.post measure.now) setting.count meaning
         → Gives (λ n. n) told result (flow_extent meaning kind grid.now axis setting.basis children.now) }
-    ensures bound { IfOk result (λ n. n < 2 ^ 59) }
+    ensures bound { IfOk result (λ n. n < 2 ^ 42) }
 {
     match kind {
         LayoutKind::Vertical => {

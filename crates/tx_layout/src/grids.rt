@@ -332,7 +332,7 @@ pub fn grid_of<F: Fn(Ask) -> Result<u32, LayoutFault>>(
 fn columns_end(alloc: Global, grid: &GridStyle, basis: Basis) -> Result<u64, LayoutFault>
     requires { IsGridStyle grid.now }
     ensures exact { Gives (λ n. n) told result (columns_end grid.now basis) }
-    ensures bound { IfOk result (λ n. n < 2 ^ 59) }
+    ensures bound { IfOk result (λ n. n < 2 ^ 42) }
 {
     let columns = columns_of(alloc, grid, basis)?;
     Ok(tracks_end(&columns))
@@ -350,7 +350,7 @@ fn rows_end(
     requires children { All (IsChild count) children.now }
     requires count { length children.now ≤ 65536 }
     ensures exact { Gives (λ n. n) told result (rows_end grid.now basis children.now) }
-    ensures bound { IfOk result (λ n. n < 2 ^ 59) }
+    ensures bound { IfOk result (λ n. n < 2 ^ 42) }
 {
     columns_end(alloc, grid, basis)?;
     let places = cells_of(alloc, grid, children, count)?;
@@ -371,7 +371,7 @@ pub fn grid_extent(
     requires children { All (IsChild setting.count) children.now }
     requires count { length children.now ≤ 65536 }
     ensures exact { Gives (λ n. n) told result (grid_extent grid.now axis setting.basis children.now) }
-    ensures bound { IfOk result (λ n. n < 2 ^ 59) }
+    ensures bound { IfOk result (λ n. n < 2 ^ 42) }
 {
     match axis {
         Axis::Width => columns_end(alloc, grid, setting.basis),

@@ -144,7 +144,7 @@ pub struct Edges {
 fn outer_end(child: &Child, axis: Axis, count: u32) -> u64
     requires { IsChild count child.now }
     ensures exact { result ≡ outer_end axis child.now }
-    ensures bound { result < 2 ^ 59 }
+    ensures bound { result < 2 ^ 42 }
 {
     let side = match axis {
         Axis::Width => child.wide,
@@ -198,7 +198,7 @@ fn stands_at(child: &Child, edge: Edge) -> bool
 fn taken(children: &[Child], edge: Edge, axis: Axis, count: u32) -> u64
     requires { All (IsChild count) children.now }
     ensures exact { result ≡ taken edge axis children.now }
-    ensures bound { result < 2 ^ 59 }
+    ensures bound { result < 2 ^ 42 }
 {
     let mut most: u64 = 0;
     for child in children {
@@ -229,7 +229,7 @@ impl Edges {
     pub fn along(self, axis: Axis) -> u64
         requires { IsEdges self }
         ensures exact { result ≡ edges_along axis self }
-        ensures bound { result < 2 ^ 60 }
+        ensures bound { result < 2 ^ 43 }
     {
         match axis {
             Axis::Width => self.left + self.right,
@@ -260,7 +260,7 @@ fn room_beside(room: u32, taken: u64) -> u32
 fn greatest_end(children: &[Child], axis: Axis, count: u32) -> u64
     requires { All (IsChild count) children.now }
     ensures exact { result ≡ greatest (map (outer_end axis) children.now) }
-    ensures bound { result < 2 ^ 59 }
+    ensures bound { result < 2 ^ 42 }
 {
     let mut most: u64 = 0;
     for child in children {
@@ -273,7 +273,7 @@ fn greatest_end(children: &[Child], axis: Axis, count: u32) -> u64
 fn last_end(children: &[Child], axis: Axis, count: u32) -> u64
     requires { All (IsChild count) children.now }
     ensures exact { result ≡ last_end axis children.now }
-    ensures bound { result < 2 ^ 59 }
+    ensures bound { result < 2 ^ 42 }
 {
     let mut end: u64 = 0;
     for child in children {
@@ -287,7 +287,7 @@ fn last_end(children: &[Child], axis: Axis, count: u32) -> u64
 pub fn extent(children: &[Child], main: Option<Axis>, axis: Axis, count: u32) -> u64
     requires { All (IsChild count) children.now }
     ensures exact { result ≡ extent main axis children.now }
-    ensures bound { result < 2 ^ 59 }
+    ensures bound { result < 2 ^ 42 }
 {
     if is_main(main, axis) {
         last_end(children, axis, count)

@@ -153,12 +153,14 @@ fn asked<F: Fn(Ask) -> Result<u32, LayoutFault>>(
 /// The width that a container asks for in an area: the greatest of what its layers ask for, at most
 /// 65,535.
 ///
-/// A layer asks for its left and its right edge, and for as many columns as the widths of its other
-/// children come to in the area between them, or the columns of a grid. `measure` is asked once for
-/// each of these widths that is that of the content.
+/// A layer asks for its left and its right edge, and for as many columns as the widths of its flow
+/// children come to in the area between them, or the columns of a grid. Children docked at the top
+/// or the bottom count for nothing. `measure` is asked for each of these widths that is that of the
+/// content.
 ///
-/// It is refused exactly where a fraction on the way is, or a measure, and where there is no memory.
-/// The conditions are those of [`crate::arrange`].
+/// It is refused exactly where a fraction on the way is, or a measure, with the direction of the
+/// widths. Else it fails only where there is no memory. The conditions are those of
+/// [`crate::arrange`].
 pub fn wide_of<F: Fn(Ask) -> Result<u32, LayoutFault>>(
     alloc: Global,
     kind: LayoutKind,
@@ -183,8 +185,9 @@ pub fn wide_of<F: Fn(Ask) -> Result<u32, LayoutFault>>(
 /// The height that a container asks for at a width: the greatest of what its layers ask for, at most
 /// 65,535.
 ///
-/// A layer asks for its top and its bottom edge, and for as many rows as its other children, or the
-/// tracks of a grid, come to in a viewport of that width and the height of the area.
+/// A layer asks for its top and its bottom edge, and for as many rows as its flow children, or the
+/// tracks of a grid, come to in a viewport of that width and the height of the area, less the four
+/// edges of the layer. A child docked at the left or the right counts for nothing but its width.
 ///
 /// It is refused exactly where a fraction on the way is, or a measure: the fault has the direction
 /// of the first such step, in the order of [`crate::arrange`]. Else it fails only where there is no

@@ -3,13 +3,12 @@
 ghost use Rattle.std.specs.Prelude.{◌≡◌, ◌+◌, ◌<◌, ◌≤◌, ◌^◌, ℕ, pos, length, All, IfOk, Option, Some, None, map, List};
 ghost use Rattle.tx_read.specs.Answer.{Gives, or_refused};
 ghost use Rattle.tx_box.specs.Item.{IsSized};
-ghost use Rattle.tx_box.specs.Shape.{IsSpan};
 ghost use Rattle.tx_box.specs.Axis.{bases, axis_spans};
 ghost use Rattle.tx_box.specs.Sizes.{box_cells};
 ghost use Rattle.tx_layout.specs.Ask.{told, Means, IsMeaning, IsAnswer};
 ghost use Rattle.tx_layout.specs.Steps.{each_of};
 ghost use Rattle.tx_layout.specs.Style.{IsBoxStyle, item_of, base, inner, size_in};
-ghost use Rattle.tx_layout.specs.Children.{IsChild, IsSide};
+ghost use Rattle.tx_layout.specs.Children.{IsChild, IsGap, IsNearSpan, IsSide};
 ghost use Rattle.tx_layout.specs.Sides.{content_width, ask_of, content_of, measured, side_of, with_side, across_one, across, gaps, with_spans, areas, is_main, along, sized, sized_both, sized_by};
 
 use crate::children::{Child, Setting, Side};
@@ -130,7 +129,7 @@ fn measured<F: Fn(Ask) -> Result<u32, LayoutFault>>(
 
 // The cells of a span.
 fn side_of(span: Span) -> Side
-    requires { IsSpan span }
+    requires { IsNearSpan span }
     ensures exact { result ≡ side_of span }
     ensures side { IsSide result }
 {
@@ -230,6 +229,7 @@ fn all_measured<F: Fn(Ask) -> Result<u32, LayoutFault>>(
 fn gaps(alloc: Global, children: &[Child], axis: Axis) -> Result<Vec<u32>, LayoutFault>
     requires { length children.now ≤ 2 ^ 24 }
     ensures count { IfOk result (λ v. length v.items ≡ length children.now + 1) }
+    ensures narrow { IfOk result (λ v. All IsGap v.items) }
     ensures exact { Gives (λ v. v.items) told result (Ok (gaps axis children.now)) }
 {
     let mut gaps = Vec::with_capacity(alloc, children.len() + 1)?;
@@ -263,7 +263,7 @@ fn with_spans(
     count: u32,
 ) -> Result<Vec<Child>, LayoutFault>
     requires children { All (IsChild count) children.now }
-    requires spans { All IsSpan spans.now }
+    requires spans { All IsNearSpan spans.now }
     requires one_each { length spans.now ≡ length children.now }
     ensures exact { Gives (λ v. v.items) told result (Ok (with_spans axis children.now spans.now)) }
     ensures children { IfOk result (λ v. All (IsChild count) v.items) }
@@ -274,6 +274,28 @@ fn with_spans(
         sized.push(with_side(child, axis, side_of(spans[index]), count))?;
     }
     Ok(sized)
+}
+
+/// The spans of boxes with gaps of at most 65,535 cells, all of which end before 2^41.
+pub fn near_spans(
+    alloc: Global,
+    items: &[Item],
+    gaps: &[u32],
+    axis: Axis,
+    basis: Basis,
+    own: &[Size],
+) -> Result<Vec<Span>, LayoutFault>
+    requires sized { All IsSized items.now }
+    requires gaps { length gaps.now ≡ length items.now + 1 }
+    requires narrow { All IsGap gaps.now }
+    requires own { length own.now ≡ length items.now }
+    requires count { length items.now ≤ 2 ^ 24 }
+    ensures exact { Gives (λ v. v.items) told result (or_refused axis (axis_spans items.now gaps.now axis basis own.now)) }
+    ensures spans { IfOk result (λ v. axis_spans items.now gaps.now axis basis own.now ≡ Some v.items) }
+    ensures cells { IfOk result (λ v. All IsNearSpan v.items) }
+    ensures count { IfOk result (λ v. length v.items ≡ length items.now) }
+{
+    resolve_axis(alloc, items, gaps, axis, basis, own)
 }
 
 // Children one after another.
@@ -297,7 +319,7 @@ fn along<F: Fn(Ask) -> Result<u32, LayoutFault>>(
     let items = all_measured(alloc, children, axis, setting, measure)?;
     let gaps = gaps(alloc, children, axis)?;
     let own = areas(alloc, children, setting.basis.area)?;
-    let spans = resolve_axis(alloc, &items, &gaps, axis, setting.basis, &own)?;
+    let spans = near_spans(alloc, &items, &gaps, axis, setting.basis, &own)?;
     with_spans(alloc, children, &spans, axis, setting.count)
 }
 

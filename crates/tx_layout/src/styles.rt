@@ -63,6 +63,7 @@ pub struct Arrangement {
     /// The region of each child, from the corner of the container's viewport. None is for a child
     /// of a grid that finds no place.
     pub placed: Items<Option<Region>>,
-    /// How many cells the children go past the room for them, to the right and down.
+    /// How many cells the flow children, or the tracks of a grid, go past the room for them, to the
+    /// right and down. Docked children and offsets don't count, and it saturates at 4,294,967,295.
     pub over: Size,
 }

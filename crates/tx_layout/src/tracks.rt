@@ -5,15 +5,16 @@ ghost use Rattle.tx_read.specs.Answer.{Gives, or_refused};
 ghost use Rattle.tx_box.specs.Axis.{axis_spans};
 ghost use Rattle.tx_box.specs.Item.{IsSized, NotNegative};
 ghost use Rattle.tx_box.specs.Laws.{HasFractions};
-ghost use Rattle.tx_box.specs.Shape.{IsSpan};
 ghost use Rattle.tx_layout.specs.Ask.{told};
 ghost use Rattle.tx_layout.specs.Style.{IsTrack};
+ghost use Rattle.tx_layout.specs.Children.{IsGap};
 ghost use Rattle.tx_layout.specs.Sides.{count_of};
 ghost use Rattle.tx_layout.specs.Grid.{one_fr, track_at, track_item, track_items, track_gap, track_gaps, track_spans, tracks_end, side_over, IsFrame, AreTracks};
 
 use crate::children::Side;
+use crate::sides::near_spans;
 use std::alloc::Global;
-use tx_box::{Basis, Item, LayoutFault, Span, resolve_axis};
+use tx_box::{Basis, Item, LayoutFault, Span};
 use tx_frac::{Frac, Scalar, Unit};
 use tx_geom::{Axis, BoxSizing, Size};
 
@@ -78,7 +79,9 @@ fn track_items(alloc: Global, tracks: &[Scalar], count: u32) -> Result<Vec<Item>
 
 // The gap before the track at a place.
 fn track_gap(gutter: u32, count: u32, place: u32) -> u32
-    ensures { result ≡ track_gap gutter count place }
+    requires { gutter ≤ 9999 }
+    ensures exact { result ≡ track_gap gutter count place }
+    ensures narrow { IsGap result }
 {
     if place == 0 || place == count {
         0
@@ -89,9 +92,11 @@ fn track_gap(gutter: u32, count: u32, place: u32) -> u32
 
 // The gaps of so many tracks.
 fn track_gaps(alloc: Global, gutter: u32, count: u32) -> Result<Vec<u32>, LayoutFault>
-    requires { count ≤ 2 ^ 24 }
+    requires count { count ≤ 2 ^ 24 }
+    requires gutter { gutter ≤ 9999 }
     ensures exact { Gives (λ v. v.items) told result (Ok (track_gaps gutter count)) }
     ensures count { IfOk result (λ v. length v.items ≡ count + 1) }
+    ensures narrow { IfOk result (λ v. All IsGap v.items) }
 {
     let mut gaps = Vec::with_capacity(alloc, count as usize + 1)?;
     for place in 0..count + 1 {
@@ -114,6 +119,7 @@ fn tracks_laid(
     requires fractions { All HasFractions items.now }
     requires gaps { gaps.now ≡ track_gaps gutter (length items.now) }
     requires gap_count { length gaps.now ≡ length items.now + 1 }
+    requires narrow { All IsGap gaps.now }
     requires own { length own.now ≡ length items.now }
     requires count { length items.now ≤ 2 ^ 24 }
     requires gutter { gutter ≤ 9999 }
@@ -122,7 +128,7 @@ fn tracks_laid(
     ensures count { IfOk result (λ v. length v.items ≡ length items.now) }
 {
     tx_box::laws::spans_follow();
-    resolve_axis(alloc, items, gaps, axis, basis, own)
+    near_spans(alloc, items, gaps, axis, basis, own)
 }
 
 /// The cells of so many tracks in an area.
@@ -152,7 +158,7 @@ pub fn track_spans(
 pub fn tracks_end(spans: &[Span]) -> u64
     requires { AreTracks spans.now }
     ensures exact { result ≡ tracks_end spans.now }
-    ensures bound { result < 2 ^ 59 }
+    ensures bound { result < 2 ^ 42 }
 {
     let mut end: u64 = 0;
     for span in spans {
@@ -164,7 +170,7 @@ pub fn tracks_end(spans: &[Span]) -> u64
 // The cells from one track to the end of another.
 fn side_between(first: Span, last: Span) -> Side
     requires low { pos 0 ≤ℤ first.from }
-    requires far { first.from ≤ℤ pos (2 ^ 58) }
+    requires far { first.from ≤ℤ pos (2 ^ 41) }
     requires forward { first.from ≤ℤ last.to }
     requires near { last.to ≤ℤ (first.from +ℤ pos 7553400) }
     ensures exact { result ≡ record { from = count_of first.from; size = count_of (last.to -ℤ first.from) } }

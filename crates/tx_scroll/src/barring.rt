@@ -1,10 +1,11 @@
 //! The trials of a container, one after another.
 
-ghost use Rattle.std.specs.Prelude.{◌≡◌, ◌<◌, ◌≤◌, ℕ, length, All, Option, [], ◌∷◌};
+ghost use Rattle.std.specs.Prelude.{◌≡◌, ◌<◌, ◌≤◌, ℕ, length, All, IfOk, Option, [], ◌∷◌};
 ghost use Rattle.std.specs.List.{FoldsTo};
 ghost use Rattle.tx_read.specs.Answer.{Gives};
 ghost use Rattle.tx_io.specs.declared.steps.Tick.TheVariants.{Arranged};
 ghost use Rattle.tx_layout.specs.Ask.{told, Means};
+ghost use Rattle.tx_layout.specs.Arrangement.{AreWithinReach};
 ghost use Rattle.tx_layout.specs.Style.{IsBoxStyle, IsGridStyle};
 ghost use Rattle.tx_scroll.specs.Bars.{outcome, made_of, tried_in_order, made, arranged_in, barred};
 ghost use Rattle.tx_scroll.specs.Ticks.{TicksBy, TicksAtMost};
@@ -36,6 +37,7 @@ fn tried<F: Fn(Ask) -> Result<u32, LayoutFault>, L: Ledger>(
     ensures exact { (meaning : Ask → Option ℕ)
         → Means (F.post measure.now) (length children.now) meaning
         → Gives (λ b. b) told result (outcome (arranged_in meaning kind grid.now align children.now screen) content trial) }
+    ensures near { IfOk result (λ b. AreWithinReach b.arrangement.placed) }
     ensures ticked { FoldsTo L.ticked steps.old.ledger (Arranged ∷ []) steps.new.ledger }
 {
     let viewport = viewport(content, trial);
@@ -76,6 +78,7 @@ fn first_fit<F: Fn(Ask) -> Result<u32, LayoutFault>, L: Ledger>(
     ensures ticked { (meaning : Ask → Option ℕ)
         → Means (F.post measure.now) (length children.now) meaning
         → TicksBy L.ticked result (length (made_of (arranged_in meaning kind grid.now align children.now screen) x y content trials.now)) steps.old.ledger steps.new.ledger }
+    ensures near { IfOk result (λ b. AreWithinReach b.arrangement.placed) }
     ensures few { TicksAtMost L.ticked (length trials.now) steps.old.ledger steps.new.ledger }
 {
     let Some((trial, later)) = trials.split_first() else {
@@ -98,7 +101,8 @@ fn first_fit<F: Fn(Ask) -> Result<u32, LayoutFault>, L: Ledger>(
 /// A vertical bar takes the last two columns of the content area, or the one that there is, and a
 /// horizontal one the last row. These are tried in turn: no bar, the vertical one, the horizontal
 /// one, both, without those that give a hidden axis a bar or a scroll axis none. The first trial
-/// counts in which the children go past the viewport in no auto axis without a bar, else the last.
+/// counts in which the children go past the room for them in no auto axis without a bar, else the
+/// last.
 ///
 /// Each trial that is made is one call of [`tx_layout::arrange`] and one arrangement in `steps`, also
 /// one that is refused. No trial is made after one that fits or is refused. The call is refused
@@ -127,6 +131,7 @@ pub fn bars<F: Fn(Ask) -> Result<u32, LayoutFault>, L: Ledger>(
     ensures ticked { (meaning : Ask → Option ℕ)
         → Means (F.post measure.now) (length children.now) meaning
         → TicksBy L.ticked result (length (made (arranged_in meaning kind grid.now align children.now screen) x y content)) steps.old.ledger steps.new.ledger }
+    ensures near { IfOk result (λ b. AreWithinReach b.arrangement.placed) }
     ensures few { TicksAtMost L.ticked 4 steps.old.ledger steps.new.ledger }
 {
     first_fit(

@@ -9,11 +9,12 @@ loop-rest-init g c = record {
   done = λ meaning means. reached_none _ _ _ _ c.requires.empty;
   children = c.requires.children;
   count = c.requires.count;
+  near = c.requires.near;
   places = c.requires.places;
 }
 
-pub returns-in-Err : goal.returns-in-Err
-returns-in-Err g c meaning means =
+pub returns-in-Err-clause-exact : goal.returns-in-Err-clause-exact
+returns-in-Err-clause-exact g c meaning means =
     let r = c.loop-rest.invariant.done meaning means in
     let cut : runs c.loop-rest.rest.now ≡ c.split_at.result.0.now ∷ runs c.split_at.result.1.now = rw (c.split_at.ensures.front, c.split_at.ensures.back) c.layer_len.ensures.cut in
     reached_told _ _ _ _ _ _ _ _ _ r cut ((c.in-Err.ensures {u = tt}).exact meaning means r.done r.is)
@@ -29,5 +30,6 @@ loop-rest-preserved g c =
           reached_next _ _ _ _ _ _ _ _ r cut (answered _ _ _ ((c.in-Ok.ensures {u = tt}).exact meaning means r.done r.is));
       children = rw c.split_at.ensures.back (All-drop (IsChild c.args.setting.count) c.layer_len.result c.loop-rest.rest.now c.loop-rest.invariant.children);
       count = omega arith;
+      near = (c.in-Ok.ensures {u = tt}).near;
       places = (c.in-Ok.ensures {u = tt}).places;
     }

@@ -4,6 +4,7 @@ use Rattle.std.proofs.lemmas.List.{length-set}
 use Rattle.tx_layout.specs.declared.children.Child.{Child}
 use Rattle.tx_layout.specs.Arrangement.{flow_region}
 use Rattle.tx_layout.proofs.Placed.{put_next}
+use Rattle.tx_layout.proofs.Reaching.{within_set}
 use Rattle.tx_layout.proofs.arranging.put_flow.Goals as goal
 
 pub loop-child-preserved : goal.loop-child-preserved
@@ -15,7 +16,8 @@ loop-child-preserved c =
     let below : x.place < c.args.count = search rules in
     record {
       done = λ done is.
-          ap (λ r. slice_set c.loop-child.placed x.place (Some r)) c.flow_region.ensures
+          ap (λ r. slice_set c.loop-child.placed x.place (Some r)) c.flow_region.ensures.exact
           ∙ put_next c.args.count (λ (d : Child). (d.place, flow_region c.args.left c.args.top d)) cs c.loop-child.child-index x done c.loop-child.placed within c.child-item.is below (i.done done is);
       count = length-set c.loop-child.placed x.place (Some c.flow_region.result) ∙ i.count;
+      near = within_set c.loop-child.placed x.place c.flow_region.result i.near c.flow_region.ensures.near;
     }

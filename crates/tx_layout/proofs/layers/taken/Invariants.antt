@@ -8,5 +8,5 @@ use Rattle.tx_layout.proofs.layers.taken.Given as goal
 abbrev pub invariant-loop-child : goal.invariant-loop-child
 invariant-loop-child l = record {
   done : greatest_from 0 (map (outer_end l.axis) (filter (stands_at l.edge) l.initial.children)) ≡ greatest_from l.most (map (outer_end l.axis) (filter (stands_at l.edge) (drop l.child-index l.children)));
-  bound : l.most < 2 ^ 59;
+  bound : l.most < 2 ^ 42;
 }

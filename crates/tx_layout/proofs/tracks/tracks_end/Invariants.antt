@@ -8,5 +8,5 @@ use Rattle.tx_layout.proofs.tracks.tracks_end.Given as goal
 abbrev pub invariant-loop-span : goal.invariant-loop-span
 invariant-loop-span l = record {
   done : unwrap_or (last_or (Some 0) (map (λ (s : Span). count_of s.to) l.initial.spans)) 0 ≡ unwrap_or (last_or (Some l.end) (map (λ (s : Span). count_of s.to) (drop l.span-index l.spans))) 0;
-  bound : l.end ≤ 2 ^ 58;
+  bound : l.end ≤ 2 ^ 41;
 }

@@ -11,4 +11,4 @@ returns-clause-tracks c =
     (subst (λ gaps. Follow gaps v.items) c.requires.gaps
     (c.spans_follow.ensures c.args.items.now c.args.gaps.now c.args.axis c.args.basis c.args.own.now v.items
     (record { sized = c.requires.sized; fractions = c.requires.fractions; one_gap_more = c.requires.gap_count; one_base_each = c.requires.own }) spans)))
-    c.resolve_axis.result c.resolve_axis.ensures.spans c.resolve_axis.ensures.cells
+    c.near_spans.result c.near_spans.ensures.spans c.near_spans.ensures.cells
