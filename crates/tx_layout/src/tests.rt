@@ -12,6 +12,10 @@ use tx_geom::{AlignX, AlignY, Axis, BoxSizing, Edge, LayoutKind, Offset, Region,
 use tx_io::{Counted, Steps};
 use tx_text::Items;
 
+mod asks;
+mod nested;
+mod pictures;
+
 const SCREEN: Size = Size {
     width: 80,
     height: 24,
@@ -77,15 +81,12 @@ fn in_unit(digits: &str, unit: Unit) -> Scalar
     }
 }
 
-// A number behind which its unit stands. `huge` is a number that no base can be multiplied by.
+// A number behind which its unit stands, or `auto`.
 fn scalar_of(word: &str) -> Scalar
     ensures { NotNegative result.value }
 {
     if word == "auto" {
         return in_unit("1", Unit::Auto);
-    }
-    if word == "huge%" {
-        return huge();
     }
     suffixed(word)
 }
@@ -116,6 +117,9 @@ fn suffixed(word: &str) -> Scalar
 fn limit_of(word: &str) -> Scalar
     ensures { IsLimit result }
 {
+    if word == "huge%" {
+        return huge();
+    }
     if let Some(digits) = word.strip_suffix("vw") {
         return in_unit(digits, Unit::Vw);
     }
@@ -302,9 +306,6 @@ fn children_of(alloc: Global, words: &str) -> Result<Vec<BoxStyle>, Fail>
 fn track_of(word: &str) -> Scalar
     ensures { IsTrack result }
 {
-    if word == "huge%" {
-        return huge();
-    }
     match word.strip_suffix("fr") {
         Some(digits) => in_unit(digits, Unit::Fr),
         None => track_limit(word),
@@ -565,6 +566,30 @@ fn lines_stand_as_worked_out(rt: HostRuntime) -> Result<(), Fail> {
          vertical 13,10 left,top | w=auto => 1x width = width width\n\
          vertical 20,10 left,top | w=auto/m=0,3,0,4 => 1x width = width width\n\
          vertical 26,10 left,top | w=50%/h=auto/m=0,6,0,7 => 1x height = 19 height\n\
+         vertical 20,10 left,top | h=2/dock=top w=50h => 1x 0,0,20,2 0,2,4,8 / 0,0 = 5 10\n\
+         vertical 20,10 left,top | w=50%/min-w=12/h=3/max-h=1/box=1/g=1,1,1,1 => 1x 0,0,14,3 / 0,0 = 14 3\n\
+         vertical 20,10 left,top | max-w=10vw/max-h=25vh => 1x 0,0,8,6 / 0,0 = 8 6\n\
+         vertical 20,10 left,top | w=2/min-w=50h/h=1/min-h=20w => 1x 0,0,5,4 / 0,0 = 5 4\n\
+         vertical 20,10 left,top | w=15/max-w=50%/min-w=60%/h=1 => 1x 0,0,12,1 / 0,0 = 12 1\n\
+         vertical 20,10 left,top | h=33% h=33% h=1fr => 1x 0,0,20,3 0,3,20,3 0,6,20,4 / 0,0 = 20 10\n\
+         vertical 20,10 left,top | h=12 h=1fr => 1x 0,0,20,12 0,12,20,0 / 0,2 = 20 12\n\
+         vertical 20,10 left,top | h=12 h=1fr/min-h=2 => 1x 0,0,20,12 0,12,20,2 / 0,4 = 20 14\n\
+         vertical 20,10 left,top | h=1/dock=top/m=1,0,1,0 w=2/dock=right/m=0,1,0,1 h=2/dock=bottom/m=0,0,1,0 w=3/dock=left/m=0,2,0,1 w=1fr => 1x 0,1,20,1 17,0,2,10 0,7,20,2 1,0,3,10 6,3,10,4 / 0,0 = 20 10\n\
+         vertical 20,10 left,top | w=2/dock=right w=4/dock=right h=1/dock=bottom h=3/dock=bottom/m=1,0,0,0 w=1fr => 1x 18,0,2,10 16,0,4,10 0,9,20,1 0,7,20,3 0,0,16,6 / 0,0 = 20 10\n\
+         vertical 20,10 left,top | h=2/dock=top w=25%/h=50%/dock=left/m=1,0,1,0 w=1fr => 1x 0,0,20,2 0,1,5,4 5,2,15,8 / 0,0 = 20 10\n\
+         vertical 20,10 left,top | w=auto/h=auto/dock=left/g=1,1,1,1 w=1fr => 1x 0,0,11,7 11,0,9,10 / 0,0 = 20 10\n\
+         vertical 20,10 right,bottom | h=1/dock=top/o=0,3 w=30/h=2 w=4/h=1/o=-1,-2 => 1x 0,3,20,1 0,7,30,2 -1,7,4,1 / 10,0 = 30 4\n\
+         vertical 20,10 left,top | w=30/dock=left/layer=1 h=2 => 1x 0,0,30,10 0,0,20,2 / 0,0 = 30 2\n\
+         vertical 20,10 left,top | w=auto/max-w=6/h=auto/g=0,1,0,1 => 1x 0,0,6,4 / 0,0 = 6 4\n\
+         vertical 20,10 left,top | w=1/h=auto/g=0,2,0,2 => 1x 0,0,1,3 / 0,0 = 1 3\n\
+         vertical 200000,9 left,top | w=auto/h=auto => 1x 0,0,65535,21848 / 0,21839 = 65535 21848\n\
+         vertical 20,10 left,top | w=65000/h=1/m=0,999,0,999 => 1x 999,0,65000,1 / 66978,0 = 65535 1\n\
+         vertical 1,10 left,top | w=huge%/h=1 => 1x 0,0,65535,1 / 65534,0 = 65535 1\n\
+         vertical 20,10 left,top | min-w=huge% => 1x width = width width\n\
+         vertical 20,10 left,top | max-h=huge% => 1x height = 20 height\n\
+         vertical 20,10 left,top | w=3/max-h=huge%/dock=left min-w=huge% => 1x height = width height\n\
+         vertical 20,10 left,top | h=huge%/dock=top w=huge% => 1x height = width height\n\
+         vertical 20,10 left,top | w=huge%/dock=top => 1x width = 0 width\n\
          horizontal 20,10 left,top | w=1fr/h=50% w=1fr/h=50% w=1fr/h=50% => 1x 0,0,6,5 6,0,7,5 13,0,7,5 / 0,0 = 20 5\n\
          horizontal 20,10 left,top | w=1fr/h=1 w=2fr/h=2 w=3/h=3/m=1,1,1,1 => 1x 0,0,5,1 5,0,10,2 16,1,3,3 / 0,0 = 20 5\n\
          horizontal 20,10 left,top | w=5/h=2/m=1,2,1,1 w=5/h=4/m=0,1,0,4 => 1x 1,1,5,2 10,0,5,4 / 0,0 = 16 4\n\
@@ -572,12 +597,22 @@ fn lines_stand_as_worked_out(rt: HostRuntime) -> Result<(), Fail> {
          horizontal 20,10 left,top | w=auto/h=auto w=auto/h=auto/g=1,1,1,1 => 1x 0,0,10,6 10,0,12,9 / 2,0 = 22 9\n\
          horizontal 20,10 left,top | w=1fr/h=auto w=25%/h=auto/g=0,2,0,2 => 1x 0,0,15,8 15,0,5,4 / 0,0 = 20 8\n\
          horizontal 20,10 center,middle | h=1/dock=top w=5/h=2 => 1x 0,0,20,1 7,4,5,2 / 0,0 = 5 3\n\
+         horizontal 20,10 right,bottom | h=1/dock=top w=5/h=2 => 1x 0,0,20,1 15,8,5,2 / 0,0 = 5 3\n\
          horizontal 20,10 right,bottom | w=5/h=2 w=4/h=5/m=0,1,0,0 => 1x 10,5,5,2 15,5,4,5 / 0,0 = 10 5\n\
          horizontal 20,10 left,top | w=4/h=1fr/dock=right w=1fr w=1fr => 1x 16,0,4,10 0,0,8,10 8,0,8,10 / 0,0 = 20 10\n\
          horizontal 20,10 left,top | w=15/h=2 w=15/h=12 => 1x 0,0,15,2 15,0,15,12 / 10,2 = 30 12\n\
          horizontal 20,10 left,top | h=huge% w=huge% => 1x width = width width\n\
          horizontal 20,10 left,top | h=huge% w=1fr => 1x height = 20 height\n\
          horizontal 20,10 left,top | w=7/layer=3 w=5/h=11/layer=1 h=1/dock=bottom/layer=3 => 1x 0,0,7,9 0,0,5,11 0,9,20,1 / 0,1 = 7 11\n\
+         horizontal 20,10 left,top | w=25vw/h=50vh w=25h/h=25w w=50w/h=50h => 1x 0,0,20,12 20,0,2,5 22,0,10,5 / 12,2 = 32 12\n\
+         horizontal 20,10 left,top | w=4/h=2/g=1,2,1,2/box=1 g=1,1,1,1/box=1 => 1x 0,0,8,4 8,0,12,10 / 0,0 = 20 10\n\
+         horizontal 20,10 left,top | h=auto h=auto h=auto => 1x 0,0,6,5 6,0,7,6 13,0,7,7 / 0,0 = 20 7\n\
+         horizontal 20,10 center,bottom | w=5/h=2/o=1,1 w=4/h=3/m=0,0,0,1 => 1x 6,8,5,2 11,7,4,3 / 0,0 = 10 3\n\
+         horizontal 20,10 left,middle | w=3/dock=right/layer=1 w=4/h=2/layer=1 h=4 => 1x 17,0,3,10 0,4,4,2 0,3,20,4 / 0,0 = 20 4\n\
+         horizontal 0,0 right,bottom | w=1fr w=3/h=50%/m=1,1,1,1 => 1x 0,0,0,0 1,1,3,0 / 5,2 = 5 2\n\
+         horizontal 20,10 left,top | h=huge%/dock=top w=huge% => 1x height = width height\n\
+         horizontal 20,10 left,top | max-w=huge%/h=huge%/layer=1 h=huge% => 1x height = width height\n\
+         horizontal 13,10 left,top | w=4/h=auto => 1x height = 4 height\n\
          horizontal 20,10 left,top | w=huge%/dock=left h=huge%/dock=top => 1x width = width width",
         |given| answer(alloc, given),
     )
@@ -641,6 +676,16 @@ fn grids_stand_as_worked_out(rt: HostRuntime) -> Result<(), Fail> {
          grid 12,6 left,top c=3/columns=70000 | w=70000 => 1x 0,0,65535,6 / 196593,0 = 65535 6\n\
          grid 7,5 left,top c=3/columns=1fr,2fr | span=1,1 span=1,1 span=1,1 span=1,2 span=2,1 => 1x 0,0,1,1 1,0,4,1 5,0,2,1 0,1,1,4 1,1,6,2 / 0,0 = 7 5\n\
          grid 12,6 left,top c=3/r=3/columns=2,1fr,3/rows=1fr,1/h=1 | span=2,2 span=1,3 span=1,1 span=1,1 => 1x 0,0,8,3 9,0,3,6 0,3,2,3 3,3,5,3 / 0,0 = 12 6\n\
+         grid 12,6 left,top c=2/columns=50% | w=2/dock=left span=1,1 span=1,1 => 1x 0,0,2,6 2,0,5,6 7,0,5,6 / 0,0 = 12 6\n\
+         grid 12,6 left,top c=1/r=1 | w=3/h=2/g=1,1,1,1/box=1 => 1x 0,0,5,4 / 0,0 = 12 6\n\
+         grid 12,6 left,top c=2/r=1 | w=50w/h=50h w=50h/h=5vw => 1x 0,0,3,3 6,0,3,4 / 0,0 = 12 6\n\
+         grid 12,6 left,top c=2/r=1 | w=1/min-w=50%/h=1/min-h=50h w=1fr/max-w=25%/h=9/max-h=50w => 1x 0,0,3,3 6,0,1,3 / 0,0 = 12 6\n\
+         grid 12,6 left,top c=1 | span=1,1 span=1,1/layer=1 span=1,1/layer=1 => 1x 0,0,12,6 0,0,12,3 0,3,12,3 / 0,0 = 12 6\n\
+         grid 12,6 left,top c=2/r=2 | span=1,9 span=1,1 span=1,1 => 1x 0,0,6,6 6,0,6,3 6,3,6,3 / 0,0 = 12 6\n\
+         grid 12,6 left,top c=3/h=9 | span=1,1 span=2,1 => 1x 0,0,0,6 9,0,9,6 / 6,0 = 18 6\n\
+         grid 12,6 left,top c=2 | w=huge%/dock=top => 1x width = 12 width\n\
+         grid 12,6 left,top c=3 | span=2,2 span=1,1 span=3,1 span=1,1 => 1x 0,0,8,4 8,0,4,2 0,4,12,2 8,2,4,2 / 0,0 = 12 6\n\
+         grid 12,6 left,top c=2/r=3/rows=1fr,3 | w=2/h=auto w=2/h=auto/m=1,0,0,0 => 1x 0,0,2,1 6,1,2,0 / 0,0 = 12 6\n\
          grid 12,6 left,top c=2 | span=1,1/m=0,9,0,9 w=2/o=-3,2 => 1x 9,0,0,6 3,2,2,6 / 0,0 = 12 6",
         |given| answer(alloc, given),
     )

@@ -1,7 +1,7 @@
 ghost use Rattle.std.specs.Prelude.{◌≡◌, ⊤, ◌≤◌, length, All, IfOk};
 ghost use Rattle.tx_box.specs.Item.{NotNegative};
 ghost use Rattle.tx_geom.specs.Region.{IsNearPlace, corner};
-ghost use Rattle.tx_layout.specs.Style.{IsBoxStyle, IsGridStyle};
+ghost use Rattle.tx_layout.specs.Style.{IsBoxStyle, IsGridStyle, IsTrack};
 
 use crate::{Barred, bars, clamp_scroll, clip};
 use std::alloc::Global;
@@ -67,16 +67,26 @@ fn boxed(width: Scalar, height: Scalar, dock: Option<Edge>) -> BoxStyle
     }
 }
 
-// A width and a height with a comma between them, and `left:` in front where the child is docked there.
+// A width and a height with a comma between them.
+fn with_sizes(sizes: &str, dock: Option<Edge>) -> Result<BoxStyle, Fail>
+    ensures { IfOk result IsBoxStyle }
+{
+    let (width, height) = sizes.split_once(',').ok_or("two sizes")?;
+    Ok(boxed(scalar(width)?, scalar(height)?, dock))
+}
+
+// Two sizes, with `left:` in front where the child is docked there, and `1:` where it is in layer 1.
 fn child(word: &str) -> Result<BoxStyle, Fail>
     ensures { IfOk result IsBoxStyle }
 {
-    let (dock, sizes) = match word.strip_prefix("left:") {
-        Some(sizes) => (Some(Edge::Left), sizes),
-        None => (None, word),
-    };
-    let (width, height) = sizes.split_once(',').ok_or("two sizes")?;
-    Ok(boxed(scalar(width)?, scalar(height)?, dock))
+    if let Some(sizes) = word.strip_prefix("1:") {
+        let style = with_sizes(sizes, None)?;
+        return Ok(BoxStyle { layer: 1, ..style });
+    }
+    match word.strip_prefix("left:") {
+        Some(sizes) => with_sizes(sizes, Some(Edge::Left)),
+        None => with_sizes(word, None),
+    }
 }
 
 fn overflow(letter: &str) -> Result<Overflow, Fail> {
@@ -99,6 +109,7 @@ fn overflows(letters: &str) -> Result<(Overflow, Overflow), Fail> {
 fn kind(letter: &str) -> LayoutKind {
     match letter {
         "h" => LayoutKind::Horizontal,
+        "g" => LayoutKind::Grid,
         _ => LayoutKind::Vertical,
     }
 }
@@ -115,17 +126,32 @@ fn area(word: &str) -> Result<Option<Size>, Fail> {
     }))
 }
 
-fn grid(alloc: Global) -> GridStyle
-    ensures { IsGridStyle result }
+// So many cells.
+fn track(count: u32) -> Scalar
+    ensures { IsTrack result }
 {
-    GridStyle {
-        columns: 1,
+    Scalar {
+        value: Frac::whole(count as i64),
+        unit: Unit::Cells,
+    }
+}
+
+// A grid with as many rows as are used.
+fn grid(alloc: Global, columns: u32, wide: u32, tall: u32) -> Result<GridStyle, Fail>
+    requires some { 1 ≤ columns }
+    requires few { columns ≤ 100 }
+    ensures { IfOk result IsGridStyle }
+{
+    let column_tracks = vec![in alloc; track(wide); 1]?;
+    let row_tracks = vec![in alloc; track(tall); 1]?;
+    Ok(GridStyle {
+        columns,
         rows: None,
-        column_tracks: Items::of(Vec::new(alloc)),
-        row_tracks: Items::of(Vec::new(alloc)),
+        column_tracks: Items::of(column_tracks),
+        row_tracks: Items::of(row_tracks),
         gutter_vertical: 0,
         gutter_horizontal: 0,
-    }
+    })
 }
 
 // The bars and the regions that a container shows.
@@ -154,8 +180,8 @@ fn barred_text(alloc: Global, barred: &Barred, ticks: u64) -> Result<String, Fai
     Ok(text)
 }
 
-// What a container comes to. The content of each child is 25 columns wide, and takes 200 cells at any
-// width. No measure is answered in an area that is refused.
+// What a container comes to. A grid has two columns of 9 cells, and rows of 4. The content of each child
+// is 25 columns wide, and takes 200 cells at any width. No measure is answered in an area that is refused.
 fn shown(
     alloc: Global,
     axes: (Overflow, Overflow),
@@ -182,7 +208,7 @@ fn shown(
     let mut steps = Steps {
         ledger: Counted::default(),
     };
-    let grid = grid(alloc);
+    let grid = grid(alloc, 2, 9, 4)?;
     let start = (AlignX::Left, AlignY::Top);
     let found = bars(
         alloc, axes.0, axes.1, kind, &grid, start, children, content, SCREEN, &measure, &mut steps,
@@ -200,7 +226,7 @@ fn shown(
     }
 }
 
-// A container from a line: what its axes do, `v` or `h` for its layout, its columns and rows, an area in
+// A container from a line: what its axes do, `v`, `h` or `g` for its layout, its columns and rows, an area in
 // which measures are refused, and one or two children.
 fn answer(alloc: Global, given: &str) -> Result<String, Fail> {
     let mut words = given.split(' ');
@@ -235,6 +261,9 @@ fn auto_axes_have_bars_where_needed(rt: HostRuntime) -> Result<(), Fail> {
          aa v 19 10 - f,a => 01 17 10 over 0 2, 2: 0 0 17 12;\n\
          aa v 20 10 - 5,6 5,5 => 01 18 10 over 0 1, 2: 0 0 5 6; 0 6 5 5;\n\
          aa v 20 10 - left:25,30 f,f => 00 20 10 over 0 0, 1: 0 0 25 30; 25 0 0 10;\n\
+         aa v 20 10 - 1:25,2 5,12 => 11 18 9 over 7 3, 4: 0 0 25 2; 0 0 5 12;\n\
+         aa v 20 10 - 1:5,6 5,6 => 00 20 10 over 0 0, 1: 0 0 5 6; 0 0 5 6;\n\
+         aa v 20 10 - left:5,f 16,5 => 10 20 9 over 1 0, 3: 0 0 5 9; 5 0 16 5;\n\
          aa v 20 10 - left:5,30 16,11 => 11 18 9 over 3 2, 4: 0 0 5 30; 5 0 16 11;",
         |given| answer(alloc, given),
     )
@@ -261,6 +290,11 @@ fn hidden_and_scroll_axes_are_left_as_they_are(rt: HostRuntime) -> Result<(), Fa
          sh v 20 10 - 30,30 => 10 20 9 over 10 21, 1: 0 0 30 30;\n\
          sh v 20 10 - 1,1 => 10 20 9 over 0 0, 1: 0 0 1 1;\n\
          ss v 20 10 - 1,1 => 11 18 9 over 0 0, 1: 0 0 1 1;\n\
+         ha v 20 10 - 1:25,2 5,12 => 01 18 10 over 7 2, 2: 0 0 25 2; 0 0 5 12;\n\
+         as h 20 10 - 9,f 10,f => 11 18 9 over 1 0, 2: 0 0 9 9; 9 0 10 9;\n\
+         ah h 20 10 - 9,12 11,f => 00 20 10 over 0 2, 1: 0 0 9 12; 9 0 11 10;\n\
+         sa h 20 10 - f,a 5,f => 11 18 9 over 0 7, 2: 0 0 13 16; 13 0 5 9;\n\
+         hs v 20 10 - left:30,f 1,1 => 01 18 10 over 1 0, 1: 0 0 30 10; 30 0 1 1;\n\
          ss v 20 10 - f,f => 11 18 9 over 0 0, 1: 0 0 18 9;",
         |given| answer(alloc, given),
     )
@@ -278,7 +312,26 @@ fn small_areas_have_bars_too(rt: HostRuntime) -> Result<(), Fail> {
          ss v 20 1 - f,2 => 11 18 0 over 0 2, 1: 0 0 18 2;\n\
          aa v 0 0 - 1,1 => 11 0 0 over 1 1, 4: 0 0 1 1;\n\
          aa v 0 0 - f,f => 00 0 0 over 0 0, 1: 0 0 0 0;\n\
+         aa v 2 10 - f,12 => 01 0 10 over 0 2, 2: 0 0 0 12;\n\
+         aa v 3 10 - 1,12 => 01 1 10 over 0 2, 2: 0 0 1 12;\n\
+         as v 1 1 - f,f => 01 0 1 over 0 0, 1: 0 0 0 1;\n\
+         sa v 1 1 - f,1 => 11 0 0 over 0 1, 2: 0 0 0 1;\n\
+         hh v 0 0 - 3,4 => 00 0 0 over 3 4, 1: 0 0 3 4;\n\
          ss v 0 0 - 2,2 => 11 0 0 over 2 2, 1: 0 0 2 2;",
+        |given| answer(alloc, given),
+    )
+}
+
+#[test]
+fn grids_have_bars_too(rt: HostRuntime) -> Result<(), Fail> {
+    let alloc = rt.alloc();
+    each_line(
+        "aa g 20 10 - f,f f,f => 00 20 10 over 0 0, 1: 0 0 9 4; 9 0 9 4;\n\
+         aa g 17 4 - f,f => 11 15 3 over 3 1, 4: 0 0 9 4;\n\
+         aa g 17 5 - f,f f,f => 10 17 4 over 1 0, 3: 0 0 9 4; 9 0 9 4;\n\
+         aa g 20 3 - f,f => 01 18 3 over 0 1, 2: 0 0 9 4;\n\
+         ah g 20 3 - f,f => 00 20 3 over 0 1, 1: 0 0 9 4;\n\
+         ss g 20 10 - 3,a => 11 18 9 over 0 0, 1: 0 0 3 4;",
         |given| answer(alloc, given),
     )
 }
@@ -313,13 +366,72 @@ fn a_container_asks_for_its_content(rt: HostRuntime) -> Result<(), Fail> {
         width: 20,
         height: 10,
     };
-    let grid = grid(alloc);
+    let grid = grid(alloc, 2, 9, 4)?;
     let vertical = kind("v");
     let wide = wide_of(alloc, vertical, &grid, &children, area, SCREEN, &measure)?;
     let tall = tall_of(
         alloc, vertical, &grid, &children, 20, area, SCREEN, &measure,
     )?;
     expect(wide == 20 && tall == 12, "20 and 12")
+}
+
+fn over_rows(style: BoxStyle, rows: u32) -> BoxStyle
+    requires style { IsBoxStyle style }
+    requires some { 1 ≤ rows }
+    requires few { rows ≤ 100 }
+    ensures { IsBoxStyle result }
+{
+    BoxStyle {
+        row_span: rows,
+        ..style
+    }
+}
+
+// The same child so many times.
+fn repeated(alloc: Global, style: BoxStyle, count: usize) -> Result<Vec<BoxStyle>, Fail>
+    requires style { IsBoxStyle style }
+    requires count { count ≤ 65536 }
+    ensures styles { IfOk result (λ v. All IsBoxStyle v.items) }
+    ensures count { IfOk result (λ v. length v.items ≤ 65536) }
+{
+    Ok(vec![in alloc; style; count]?)
+}
+
+#[test]
+fn a_number_tells_how_far_children_go_at_most(rt: HostRuntime) -> Result<(), Fail> {
+    let alloc = rt.alloc();
+    let measure = |_ask: Ask| -> Result<u32, LayoutFault>
+        requires { ⊤ }
+        ensures { ⊤ }
+    { Ok(7) };
+    let child = over_rows(with_sizes("f,f", None)?, 100);
+    let children = repeated(alloc, child, 656)?;
+    let grid = grid(alloc, 1, 9, 65_535)?;
+    let content = Size {
+        width: 20,
+        height: 10,
+    };
+    let start = (AlignX::Left, AlignY::Top);
+    let mut steps = Steps {
+        ledger: Counted::default(),
+    };
+    let barred = bars(
+        alloc,
+        Overflow::Hidden,
+        Overflow::Scroll,
+        kind("g"),
+        &grid,
+        start,
+        &children,
+        content,
+        SCREEN,
+        &measure,
+        &mut steps,
+    )?;
+    expect(
+        barred.arrangement.over.height == u32::MAX,
+        "65,600 rows of 65,535",
+    )
 }
 
 #[test]
