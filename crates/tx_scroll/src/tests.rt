@@ -394,6 +394,8 @@ fn repeated(alloc: Global, style: BoxStyle, count: usize) -> Result<Vec<BoxStyle
     ensures styles { IfOk result (λ v. All IsBoxStyle v.items) }
     ensures count { IfOk result (λ v. length v.items ≤ 65536) }
 {
+    let _size: Scalar = style.width;
+    let _limit: Option<Scalar> = None;
     Ok(vec![in alloc; style; count]?)
 }
 
