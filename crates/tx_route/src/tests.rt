@@ -1,3 +1,4 @@
+mod bindings;
 mod copies;
 mod deliveries;
 mod focus;

@@ -71,14 +71,19 @@ fn routed(tree: &Tree, focused: u32, panes: &[Pane], input: &Input) -> Result<De
     Ok(route(tree, &pseudo, &sight, input)?)
 }
 
-/// What the input of a line comes to; before it stands the focused row, or 0.
-fn told_of(alloc: Global, panes: &[Pane], line: &str) -> Result<String, Fail> {
+/// What the input of a line comes to in a tree; before it stands the focused row, or 0.
+fn told_in(alloc: Global, tree: &str, panes: &[Pane], line: &str) -> Result<String, Fail> {
     let (focused, line) = line.split_once(' ').ok_or("a row")?;
-    let tree = tree_of(alloc, TREE)?;
+    let tree = tree_of(alloc, tree)?;
     let input = input_of(alloc, line)?;
     let deliveries = routed(&tree, number_of(focused)?, panes, &input)?;
     let action = deliveries.action;
     told(alloc, &deliveries, action)
+}
+
+/// The same in the tree of the tests.
+fn told_of(alloc: Global, panes: &[Pane], line: &str) -> Result<String, Fail> {
+    told_in(alloc, TREE, panes, line)
 }
 
 const KEYS: &str = "0 press a => put 1 Key(Char('a'))
@@ -187,4 +192,42 @@ fn without_a_frame_nothing_is_pointed_at(rt: HostRuntime) -> Result<(), Fail> {
 0 hover #none => missed NoTarget
 3 press f3 => action 2 FocusNext";
     each_line(table, |line| told_of(alloc, &[], line))
+}
+
+/// A tree of one row in each depth, down to the deepest, and the Screen's second child behind them. The
+/// rows of the depths 62 and 63 have ids.
+fn deep(alloc: Global) -> Result<String, Fail> {
+    let mut text = String::from_str(alloc, "Screen\n")?;
+    for depth in 1u32..64 {
+        for _ in 0..depth {
+            text.push_str("  ")?;
+        }
+        text.push_str(match depth {
+            62 => "Container #low\n",
+            63 => "Container #lowest disabled\n",
+            _ => "Container\n",
+        })?;
+    }
+    text.push_str("  Button #last\n")?;
+    Ok(text)
+}
+
+/// What the input of a line comes to in that tree, of which no frame is shown.
+fn told_deep(alloc: Global, line: &str) -> Result<String, Fail> {
+    let tree = deep(alloc)?;
+    told_in(alloc, tree.as_str(), &[], line)
+}
+
+#[test]
+fn deep_rows_are_reached(rt: HostRuntime) -> Result<(), Fail> {
+    let alloc = rt.alloc();
+    let table = "0 mount #low,Button a => target 63
+0 mount #lowest,Button a => missed TooDeep
+0 mount #lowest,Button last => missed TooDeep
+0 mount #lowest,Screen => missed Leaf
+0 mount #low,Button last => missed DuplicateId
+0 remove #lowest => target 64
+0 before #last,#low => missed NotSiblings
+64 press a => put 64 Key(Char('a'))";
+    each_line(table, |line| told_deep(alloc, line))
 }

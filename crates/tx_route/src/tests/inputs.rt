@@ -8,7 +8,7 @@ use tx_select::{Selector, read_selector};
 use tx_tree::{Key, Kind, Name, NewRow, Text};
 
 /// The key that a word names.
-fn key_of(word: &str) -> Result<Key, Fail> {
+pub fn key_of(word: &str) -> Result<Key, Fail> {
     match word {
         "a" => Ok(Key::Char('a')),
         "enter" => Ok(Key::Enter),

@@ -17,6 +17,7 @@ pub const TREE: &str = "Screen
       bind priority f5 scroll_home
       bind priority f5 scroll_end
       bind f6 scroll_home
+      bind f6 scroll_end
     Input #name
   Container #off disabled
     bind priority f7 page_up
