@@ -1,0 +1,6 @@
+pub mod Pens
+pub mod Glyphs
+pub mod Edges
+pub mod Bars
+pub mod Drawing
+pub mod Laws

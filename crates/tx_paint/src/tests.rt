@@ -1,0 +1,3 @@
+//! Drawings, as pictures and by their pens.
+mod drawings;
+mod tables;
