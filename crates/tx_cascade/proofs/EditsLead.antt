@@ -94,14 +94,14 @@ module _ (f : Row → Row) (same-node : (row : Row) → (f row).node ≡ row.nod
       moved = λ n m parent other n_was m_was n_is m_is n_stays m_stays. before-same n m rows;
     }
 
-state-stays : (edits : List Edit) (state : State) → StateLeads edits state state
+pub state-stays : (edits : List Edit) (state : State) → StateLeads edits state state
 state-stays edits state = record {
   focused = λ differ. absurd (differ refl);
   pointed = λ differ. absurd (differ refl);
   dark = λ none. refl;
 }
 
-row-stays : (edits : List Edit) (n : ℕ) (row : Row) → RowLeads edits n row row
+pub row-stays : (edits : List Edit) (n : ℕ) (row : Row) → RowLeads edits n row row
 row-stays edits n row = record {
   classes = λ name none. refl;
   text = λ none. refl;

@@ -42,7 +42,7 @@ before-at rows n parent (Some row) is = above-none row.depth (before_of n rows) 
 pub parent-before : (rows : List Row) (n : ℕ) (parent : Row) → parent_of n rows ≡ Some parent → IsAmong parent (before_of n rows)
 parent-before rows n parent is = before-at rows n parent (row_at n rows) is
 
-before-among : (n : ℕ) (rows : List Row) (row : Row) → IsAmong row (before_of n rows) → IsAmong row rows
+pub before-among : (n : ℕ) (rows : List Row) (row : Row) → IsAmong row (before_of n rows) → IsAmong row rows
 before-among n [] row is = is
 before-among n (first ∷ rows) row is = elim (cases_Bool (has_number n first)) [
   | inl same ↦ let was = rw same at is in absurd was
@@ -55,7 +55,7 @@ before-among n (first ∷ rows) row is = elim (cases_Bool (has_number n first)) 
 ]
 
 -- where numbers differ, a row is found by its number
-counted : (rows : List Row) (row : Row) → IsAmong row rows → 1 ≤ count_of (number row) rows
+pub counted : (rows : List Row) (row : Row) → IsAmong row rows → 1 ≤ count_of (number row) rows
 counted [] row is = absurd is
 counted (first ∷ rows) row is = elim is [
   | inl e ↦ let own : has_number (number row) first ≡ true = eq-eqb _ _ (ap number e) in rw own (omega arith)

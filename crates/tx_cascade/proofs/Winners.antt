@@ -67,7 +67,7 @@ module _ (all : List Reached) (one : Reached) (here : IsIn one all) (beats : Bea
       by Added alone = absurd (alone refl)
 
 module _ (make : ValuesMakeStyles) where
-  in-style : (above : List Value) (all : List Reached) (property : Property) → style_value (style_below above all) property ≡ value_below above all property
+  pub in-style : (above : List Value) (all : List Reached) (property : Property) → style_value (style_below above all) property ≡ value_below above all property
   unfolding style_below
   in-style above all property = (make (value_below above all)).1 property
 

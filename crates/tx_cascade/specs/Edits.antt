@@ -75,7 +75,8 @@ names_dark _ = false
 abbrev pub comes_before : ℕ → ℕ → List Row → Bool
 comes_before n m rows = list_any (has_number n) (before_of m rows)
 
--- of a row that is there before and after, what no edit names is as it was, and so is what no edit can name
+-- Of a row that is there before and after, what no edit names is as it was, and so is what no edit can name. Of its classes it counts
+-- which it has, not in which order or how often. A text and a private state are named by the edits of either.
 pub record RowLeads (edits : List Edit) (n : ℕ) (old new : Row) : Type 0 where
   pub classes : (name : List ℕ) → list_any (names_class n name) edits ≡ false → has_name name old.classes.names ≡ has_name name new.classes.names
   pub text : list_any (names_content n) edits ≡ false → old.text ≡ new.text

@@ -8,3 +8,5 @@ pub mod Reaching
 pub mod SheetOrder
 pub mod Styles
 pub mod Tested
+pub mod TreeEditLaws
+pub mod ValueLaws

@@ -61,7 +61,8 @@ inline_declarations text = if nat_lt (length text) (2 ^ 32) then declared_in (in
 
 -- ---- all
 
--- all declarations that reach a row with this inline text, where its matcher tells which selectors match it
+-- All declarations that reach a row with this inline text, where its matcher tells which selectors match it. A sheet that was read
+-- brings the rules of the default sheet with it.
 unfoldable pub reaching : Matcher → SheetValue → List ℕ → List Reached
 reaching matcher sheet inline =
     of_rules matcher Default sheet.defaults

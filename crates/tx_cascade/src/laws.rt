@@ -2,6 +2,8 @@
 ghost use Rattle.tx_cascade.specs.EditLaws.{NoEditLeads, EachEditLeads, EditsLeadOn};
 ghost use Rattle.tx_cascade.specs.Laws.{ImportantWins, SpecificWins, LaterWins, NearerWins, AtMostOneGreatest, MatchersAgree, OneStyle, StylesAreThose, WinnersCount};
 ghost use Rattle.tx_cascade.specs.SheetOrder.{SheetReachesRows, SheetsAreOrdered};
+ghost use Rattle.tx_cascade.specs.TreeEditLaws.{NothingNamed, TreeEditsLead};
+ghost use Rattle.tx_cascade.specs.ValueLaws.{ValuesAreThose, SomeWins};
 
 use tx_value::laws::styles_are_values;
 
@@ -36,9 +38,21 @@ pub fn sheets_are_ordered()
     ensures order { SheetsAreOrdered }
 {}
 
-/// A declaration that reaches a row and beats all others of its property gives the row its value.
+/// A declaration that reaches a row and beats all others of its property gives the row its value,
+/// unless that is `initial`, or the property is `text-style`, to which the parent's marks are added.
 pub fn winners_count()
     ensures { WinnersCount }
+{
+    styles_are_values();
+}
+
+/// What a row has of a property: the value of the winner; where that is `initial`, of the winner of
+/// the default sheet; where nothing is left, the parent's value of an inherited property, and else
+/// the initial value. The marks that are declared add up with the parent's. The Screen takes the
+/// initial values for its parent's. Of a property of which some declaration reaches a row, one wins.
+pub fn values_are_those()
+    ensures values { ValuesAreThose }
+    ensures some { SomeWins }
 {
     styles_are_values();
 }
@@ -51,10 +65,19 @@ pub fn one_style()
     ensures those { StylesAreThose }
 {}
 
-/// The edit that names a change leads from what was before it to what is after it, and edits that
-/// lead somewhere, followed by edits that lead on from there, lead all the way.
+/// The edit that names a change of one row or of the pseudo state leads from what was before it to
+/// what is after it, and edits that lead somewhere, followed by edits that lead on from there, lead
+/// all the way.
 pub fn edits_lead()
     ensures none { NoEditLeads }
     ensures each { EachEditLeads }
     ensures on { EditsLeadOn }
+{}
+
+/// Where a row is mounted, removed or moved, the edit that names it with its parent leads from the
+/// rows of the tree before it to those after it. Where no edit leads from one tree to another,
+/// nothing differs but the order and the repeats of classes.
+pub fn tree_edits_lead()
+    ensures each { TreeEditsLead }
+    ensures none { NothingNamed }
 {}

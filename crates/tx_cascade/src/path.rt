@@ -66,11 +66,13 @@ fn style_at<L: Ledger>(
 /// the weightiest one first: whether it is important; its origin, which is the default sheet, the
 /// sheet or the row's inline text; the ids, the classes and the types of its rule's most specific
 /// selector among those that match the row; the number of its rule; and its own number in that rule.
-/// In place of a winner `initial` the winner of the default sheet counts. Where there is none, or
-/// that is `initial` too, `color` and `visibility` are the parent's, and every other property has
-/// its initial value. The marks of the parent's `text-style` are always added. An inline text outside
-/// the grammar counts as empty. At most one `Test` is ticked for each selector of the sheet and the
-/// default sheet at each row from this one up.
+/// In place of a winner `initial` the winner of the default sheet counts, and where there is none, or
+/// that is `initial` too, no declaration does. Where no declaration counts, `color` and `visibility`
+/// are the parent's, and every other property has its initial value. The Screen, which has no parent,
+/// has the initial values of both too, `$foreground` and `visible`. The marks of the parent's
+/// `text-style` are always added. An inline text outside the grammar counts as empty, and so does one
+/// of 4 GiB or more. At most one `Test` is ticked for each selector of the sheet and the default
+/// sheet at each row from this one up.
 pub fn style_of<L: Ledger>(
     alloc: Global,
     sheet: &Sheet,

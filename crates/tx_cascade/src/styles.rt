@@ -75,7 +75,7 @@ fn style_among<L: Ledger>(
 }
 
 /// The styles of all rows, each row after its parent.
-fn styles_of<L: Ledger>(
+pub fn styles_of<L: Ledger>(
     alloc: Global,
     sheet: &Sheet,
     tree: &Tree,
@@ -118,9 +118,11 @@ impl Styles {
         })
     }
 
-    /// The styles of all rows of a tree that these edits lead to, under the same sheet. Where memory
-    /// runs out, all styles are as they were. Until then the old and the new ones are both held. At
-    /// most one `Test` is ticked for each selector of the sheet and the default sheet at each row.
+    /// The styles of all rows of a tree that these edits lead to, under the same sheet. Edits lead
+    /// from one tree and pseudo state to another where each part in which they differ is named by one
+    /// of them. Where memory runs out, all styles are as they were. Until then the old and the new
+    /// ones are both held. At most one `Test` is ticked for each selector of the sheet and the
+    /// default sheet at each row.
     pub fn restyle<L: Ledger>(
         &mut self,
         sheet: &Sheet,

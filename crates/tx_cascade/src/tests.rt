@@ -1,5 +1,8 @@
 mod restyled;
+mod restyled_rows;
+mod restyled_states;
 
+use crate::styles::styles_of;
 use crate::{Styles, style_of};
 use std::alloc::Global;
 use std::rt::HostRuntime;
@@ -308,4 +311,28 @@ fn each_selector_is_tested_once_at_each_row(rt: HostRuntime) -> Result<(), Fail>
     };
     let _styles = Styles::open(alloc, &sheet, &tree, &STILL, &mut steps)?;
     expect(steps.ledger.tests == 88, "22 selectors at 4 rows")
+}
+
+/// A Screen with so many pairs of Statics below it, of the classes `a` and `b`.
+fn paired(alloc: Global, pairs: u32) -> Result<Tree, Fail> {
+    let mut tree = Tree::of_screen(alloc, NewRow::of(alloc, Kind::Screen))?;
+    for _ in 0..pairs {
+        let first = row_of(alloc, Kind::Static, "", "a")?;
+        tree.mount(NodeId(1), first)?;
+        let second = row_of(alloc, Kind::Static, "", "b")?;
+        tree.mount(NodeId(1), second)?;
+    }
+    Ok(tree)
+}
+
+#[test]
+fn equal_styles_stand_in_one_place(rt: HostRuntime) -> Result<(), Fail> {
+    let alloc = rt.alloc();
+    let sheet = sheet_of(alloc, ".a { color: red; } .b { color: blue; }")?;
+    let tree = paired(alloc, 20)?;
+    let mut steps = Steps {
+        ledger: Counted::default(),
+    };
+    let styles = styles_of(alloc, &sheet, &tree, &STILL, &mut steps)?;
+    expect(styles.made.len() == 3, "three styles for 41 rows")
 }

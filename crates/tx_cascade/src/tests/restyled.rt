@@ -21,18 +21,18 @@ const SHEET: &str = "\
 .b { color: blue; }
 Container:focus { text-style: bold; }";
 
-const COLD: &str = "Foregroundmarks ;Foregroundmarks ;Foregroundmarks b;#0000ffmarks b;";
+const COLD: &str = "Foregroundmarks ;Foregroundmarks ;Foregroundmarks b;#0000ffmarks b;;";
 
-const HOT: &str = "Foregroundmarks ;Foregroundmarks ;Foregroundmarks b;#ff0000marks b;";
+const HOT: &str = "Foregroundmarks ;Foregroundmarks ;Foregroundmarks b;#ff0000marks b;;";
 
-const LIME: &str = "Foregroundmarks ;Foregroundmarks ;Foregroundmarks b;#00ff00marks b;";
+const LIME: &str = "Foregroundmarks ;Foregroundmarks ;Foregroundmarks b;#00ff00marks b;;";
 
-const MOVED: &str = "Foregroundmarks ;Foregroundmarks b;Foregroundmarks b;#00ff00marks b;";
+const MOVED: &str = "Foregroundmarks ;Foregroundmarks b;Foregroundmarks b;#00ff00marks b;;";
 
-/// The colours and the marks of the rows 1 to 4.
+/// The colours and the marks of the rows 1 to 5.
 fn shown(alloc: Global, styles: &Styles) -> Result<String, Fail> {
     let mut text = String::new(alloc);
-    for number in 1..5 {
+    for number in 1..6 {
         if let Some(style) = styles.style(NodeId(number)) {
             text.push_str(value_text(alloc, style.get(Property::Color))?.as_str())?;
             text.push_str(value_text(alloc, style.get(Property::TextStyle))?.as_str())?;
@@ -43,7 +43,7 @@ fn shown(alloc: Global, styles: &Styles) -> Result<String, Fail> {
 }
 
 /// Fails unless the rows are shown so, as they are in styles opened anew too.
-fn show_as(
+pub fn show_as(
     alloc: Global,
     styles: &Styles,
     sheet: &Sheet,
@@ -134,7 +134,7 @@ fn after_inline(
 }
 
 /// The styles after the focus moved, with the pseudo state then.
-fn after_focus(
+pub fn after_focus(
     styles: &mut Styles,
     sheet: &Sheet,
     tree: &Tree,
