@@ -1,0 +1,7 @@
+mod Forests
+mod Counting
+mod Gathering
+mod Numbers
+mod Deciding
+mod Answering
+mod Styling

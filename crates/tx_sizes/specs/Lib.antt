@@ -1,0 +1,4 @@
+pub mod Forest
+pub mod Measures
+pub mod Counts
+pub mod Laws
