@@ -1,0 +1,10 @@
+mod Rows
+mod Adding
+mod Settings
+mod Ticking
+mod Looking
+mod Reaching
+mod Wholes
+mod Walking
+mod Trees
+mod Bars

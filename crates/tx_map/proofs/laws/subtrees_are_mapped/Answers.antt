@@ -1,0 +1,5 @@
+use Rattle.tx_map.proofs.Wholes.{subtrees_are_mapped}
+use Rattle.tx_map.proofs.laws.subtrees_are_mapped.Goals as goal
+
+pub returns : goal.returns
+returns c = subtrees_are_mapped c.subtrees_stand_alone.ensures

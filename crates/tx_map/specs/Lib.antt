@@ -1,0 +1,10 @@
+pub mod Scene
+pub mod LayoutMap
+pub mod Faults
+pub mod Ticks
+pub mod Reach
+pub mod Subtrees
+pub mod Present
+pub mod Lookup
+pub mod Laws
+pub mod Rows
