@@ -2,7 +2,6 @@
 use Rattle.std.proofs.Common.{◌≡◌, ℕ, suc, ◌+◌, Bool, true, false, cond, List, [], ◌∷◌, ◌++◌, drop, Option, Some, None, Result, Ok, Err, ◌∙◌, refl, sym, ap, subst, append_assoc, append-nil}
 use Rattle.tx_box.specs.declared.items.LayoutFault.{LayoutFault}
 use Rattle.tx_box.specs.declared.items.LayoutFault.TheVariants as layout
-use Rattle.tx_geom.specs.declared.choices.Axis.{Axis}
 use Rattle.tx_geom.specs.Along.{region_of}
 use Rattle.tx_geom.specs.Region.{corner}
 use Rattle.tx_geom.specs.declared.places.Region.{Region}
@@ -22,7 +21,7 @@ use Rattle.tx_read.specs.Answer.{Tells}
 use Rattle.tx_read.specs.Reading.{◌>>=◌}
 use Rattle.tx_scroll.specs.Clip.{clipped}
 use Rattle.tx_scroll.specs.declared.trials.Barred.{Barred}
-use Rattle.tx_sizes.specs.Forest.{Styled, Forest, Empty, Grown, depth, forest, under}
+use Rattle.tx_sizes.specs.Forest.{Styled, depth}
 use Rattle.tx_sizes.specs.Measures.{is_taking_part}
 use Rattle.tx_tree.specs.declared.row.NodeId.{NodeId}
 use Rattle.tx_value.specs.declared.value.Value.{Value}

@@ -1,22 +1,21 @@
 -- The bars of a container, by what its children answer.
-use Rattle.std.proofs.Common.{◌≡◌, ℕ, ◌<◌, Bool, true, false, cond, List, [], ◌∷◌, length, map, drop, Option, Some, None, Result, Ok, Err, ◌∙◌, refl, sym, ap, subst}
+use Rattle.std.proofs.Common.{◌≡◌, ℕ, ◌<◌, true, false, List, length, map, drop, Option, Some, Result, Ok, ◌∙◌, refl, sym, ap, subst}
 use Rattle.std.proofs.lemmas.Option.{slice_get-map, slice_get-get_or}
 use Rattle.std.specs.Prelude.{option_map, option_and_then, slice_get, slice_index}
 use Rattle.tx_geom.specs.declared.choices.Axis.{Axis}
 use Rattle.tx_geom.specs.declared.places.Size.{Size}
 use Rattle.tx_box.specs.declared.items.LayoutFault.{LayoutFault}
-use Rattle.tx_layout.specs.Ask.{IsAnswer, Means, told}
+use Rattle.tx_layout.specs.Ask.{IsAnswer, Means}
 use Rattle.tx_layout.specs.declared.styles.Ask.{Ask}
 use Rattle.tx_layout.specs.declared.styles.BoxStyle.{BoxStyle}
 use Rattle.tx_look.specs.Boxes.{grid_style}
 use Rattle.tx_map.specs.LayoutMap.{barred_row, without_children}
 use Rattle.tx_map.specs.Subtrees.{barred_in, rows_below}
 use Rattle.tx_node_map.specs.Held.{nothing}
-use Rattle.tx_read.specs.Answer.{Gives}
 use Rattle.tx_scroll.specs.Bars.{barred}
 use Rattle.tx_scroll.specs.declared.trials.Barred.{Barred}
 use Rattle.tx_sizes.specs.Counts.{AreChildren}
-use Rattle.tx_sizes.specs.Forest.{Styled, depth, forest, under}
+use Rattle.tx_sizes.specs.Forest.{Styled, forest, under}
 use Rattle.tx_sizes.specs.Measures.{Measure, answer_of, boxes, first_measure, measures}
 use Rattle.tx_tree.specs.Kind.{holds_children}
 use Rattle.tx_value.specs.StyleReads as style

@@ -1,13 +1,11 @@
 -- How far rows stand from the corner of the screen.
-use Rattle.std.proofs.Common.{◌≡◌, ℕ, ◌+◌, ◌*◌, ◌^◌, ◌<◌, ◌≤◌, Bool, true, false, Option, Some, None, refl, arith}
+use Rattle.std.proofs.Common.{ℕ, ◌+◌, ◌^◌, ◌<◌, ◌≤◌, Bool, true, false, arith}
 use Rattle.std.proofs.lemmas.Int.{ints, clamps}
 use Rattle.std.specs.Int.{int_max}
-use Rattle.std.specs.Prelude.{ℤ, pos, neg_ℤ, ◌+ℤ◌, ◌≤ℤ◌, cond, ◌==◌, ◌||◌}
-use Rattle.tx_geom.specs.Along.{region_of}
+use Rattle.std.specs.Prelude.{ℤ, pos, ◌+ℤ◌, cond, ◌==◌, ◌||◌}
 use Rattle.tx_geom.specs.Region.{IsNear, IsNearPlace, corner, moved}
 use Rattle.tx_geom.specs.declared.places.Offset.{Offset}
 use Rattle.tx_geom.specs.declared.places.Region.{Region}
-use Rattle.tx_geom.specs.declared.places.Size.{Size}
 use Rattle.tx_layout.specs.Arrangement.{IsWithinReach}
 use Rattle.tx_map.specs.Reach.{IsWithin, IsPlaceWithin, reach}
 use Rattle.tx_scroll.specs.Clip.{clipped, common_columns, common_rows, overlap}

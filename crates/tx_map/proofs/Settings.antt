@@ -1,8 +1,8 @@
 -- What a map depends on.
-use Rattle.std.proofs.Common.{◌≡◌, ℕ, ◌+◌, List, [], ◌∷◌, ◌++◌, drop, Option, Ok, ◌∙◌, refl, sym, ap, if◌then◌else◌}
+use Rattle.std.proofs.Common.{◌≡◌, ℕ, ◌+◌, List, ◌++◌, drop, Option, Ok, ◌∙◌, refl, ap, if◌then◌else◌}
 use Rattle.tx_geom.specs.declared.places.Region.{Region}
 use Rattle.tx_layout.specs.declared.styles.BoxStyle.{BoxStyle}
-use Rattle.tx_map.specs.LayoutMap.{Mapped, Place, Container, barred_row, entries_with, row_entries, entries, entries_if, first_region, child_place}
+use Rattle.tx_map.specs.LayoutMap.{Mapped, Place, Container, row_entries, entries, entries_if, first_region, child_place}
 use Rattle.tx_map.specs.Scene.{Scene}
 use Rattle.tx_map.specs.Subtrees.{setting}
 use Rattle.tx_map.specs.declared.entry.Entry.{Entry}

@@ -1,25 +1,20 @@
 -- The rows of a tree, and the whole map by its first row.
-use Rattle.std.proofs.Common.{◌≡◌, ℕ, ◌+◌, ◌*◌, ◌≤◌, List, [], ◌∷◌, length, map, Ok, ◌∙◌, refl, sym, ap, subst, arith}
+use Rattle.std.proofs.Common.{◌≡◌, ◌+◌, ◌*◌, ◌≤◌, List, [], ◌∷◌, length, Ok, ◌∙◌, sym, ap, subst, arith}
 use Rattle.std.proofs.lemmas.List.{length-map}
 use Rattle.std.proofs.lemmas.List.Elements.{All-cons, All-nil}
 use Rattle.std.proofs.lemmas.List.Sums.{prefix_len-le-length}
 use Rattle.std.specs.List.{prefix_len}
 use Rattle.std.specs.Prelude.{All}
-use Rattle.tx_map.specs.Faults.{told, IsBehind}
+use Rattle.tx_map.specs.Faults.{IsBehind}
 use Rattle.tx_map.specs.LayoutMap.{Mapped, entries_from, layout_map, screen_place}
 use Rattle.tx_map.specs.Scene.{Scene}
-use Rattle.tx_map.specs.Subtrees.{rows_below, setting, subtree_entries}
+use Rattle.tx_map.specs.Subtrees.{IsRooted, rows_below, setting, subtree_entries}
 use Rattle.tx_map.specs.declared.entry.Entry.{Entry}
 use Rattle.tx_map.proofs.Wholes.{set_over}
 use Rattle.tx_sizes.specs.Counts.{is_deeper}
 use Rattle.tx_sizes.specs.Forest.{Styled, Styles, depth, forest, styled, styled_rows}
 use Rattle.tx_tree.specs.WellFormed.{IsPreorder, MayAllFollow}
 use Rattle.tx_tree.specs.declared.row.Row.{Row}
-
--- the first row is that of the Screen, and none is deeper than 63
-pub record IsRooted (own : Styled) (behind : List Styled) : Type 0 where
-  pub first : depth own ≡ 0
-  pub deep : All (λ row. depth row ≤ 63) behind
 
 all_shallow : (styles : Styles) (last : Row) (rows : List Row) → MayAllFollow last rows → All (λ row. depth row ≤ 63) (styled_rows styles rows)
 all_shallow styles last [] h = All-nil (λ row. depth row ≤ 63)

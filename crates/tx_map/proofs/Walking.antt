@@ -1,11 +1,11 @@
 -- The loop over the children of a container.
-use Rattle.std.proofs.Common.{◌≡◌, ℕ, suc, ◌+◌, ◌*◌, ◌≤◌, Bool, true, false, cond, List, [], ◌∷◌, drop, Option, Ok, ◌∙◌, refl, sym, ap, subst, arith}
+use Rattle.std.proofs.Common.{◌≡◌, ℕ, suc, ◌+◌, ◌*◌, ◌≤◌, Bool, true, false, cond, List, [], ◌∷◌, drop, Option, ◌∙◌, refl, sym, ap, arith}
 use Rattle.std.proofs.lemmas.List.{drop-drop}
 use Rattle.std.specs.List.{prefix_len}
 use Rattle.tx_geom.specs.declared.places.Region.{Region}
 use Rattle.tx_io.specs.declared.steps.Tick.{Tick}
 use Rattle.tx_map.specs.Faults.{told, IsBehind}
-use Rattle.tx_map.specs.LayoutMap.{Mapped, Container, entries, first_region}
+use Rattle.tx_map.specs.LayoutMap.{Container, entries, first_region}
 use Rattle.tx_map.specs.Scene.{Scene}
 use Rattle.tx_map.specs.Subtrees.{child_entries, children_entries, regions_taken}
 use Rattle.tx_map.specs.Ticks.{ArrangedAtMost}

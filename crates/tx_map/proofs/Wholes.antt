@@ -1,29 +1,27 @@
 -- What holds of every map.
-use Rattle.std.proofs.Common.{◌≡◌, ℕ, ◌+◌, ◌<◌, ◌≤◌, Bool, true, false, cond, List, [], ◌∷◌, ◌++◌, drop, Option, Some, None, Result, Ok, Err, ◌∙◌, refl, sym, ap, subst, arith}
+use Rattle.std.proofs.Common.{◌≡◌, ℕ, ◌+◌, Bool, true, false, cond, List, [], ◌∷◌, ◌++◌, drop, Option, Some, None, Result, Ok, Err, ◌∙◌, refl, sym, ap, subst, arith}
 use Rattle.std.proofs.lemmas.Int.{ints, clamps}
 use Rattle.std.proofs.lemmas.List.Elements.{All-append, All-cons, All-nil, All-weaker}
 use Rattle.std.specs.Int.{int_max, int_min}
-use Rattle.std.specs.Prelude.{ℤ, pos, negsuc, ◌+ℤ◌, ◌-ℤ◌, ◌≤ℤ◌, ◌<ℤ◌, ◌==◌, ◌||◌, All}
+use Rattle.std.specs.Prelude.{ℤ, pos, negsuc, ◌+ℤ◌, ◌-ℤ◌, ◌==◌, ◌||◌, All}
 use Rattle.tx_geom.specs.Region.{Holds, IsAmong, nothing_at}
 use Rattle.tx_geom.specs.declared.choices.Axis.{Axis}
 use Rattle.tx_geom.specs.declared.places.Offset.{Offset}
 use Rattle.tx_geom.specs.declared.places.Region.{Region}
-use Rattle.tx_geom.specs.declared.places.Size.{Size}
 use Rattle.tx_layout.specs.Sides.{count_of}
 use Rattle.tx_layout.specs.declared.styles.BoxStyle.{BoxStyle}
-use Rattle.tx_map.specs.LayoutMap.{Mapped, Place, Container, at_node, barred_row, container, content_size, entries, entries_if, entries_from, entries_with, entry_at, first_region, layout_map, row_entries, child_place, screen_place}
+use Rattle.tx_map.specs.LayoutMap.{Mapped, Place, Container, at_node, barred_row, container, content_size, entries, entries_if, entries_from, entries_with, entry_at, first_region, row_entries, child_place, screen_place}
 use Rattle.tx_map.specs.Laws.{SubtreesArrange, SubtreesAreMapped, FillsScreen, ScreenFills, IsClippedTo, SubtreesAreClipped}
 use Rattle.tx_map.specs.Scene.{Scene, rows_of}
-use Rattle.tx_map.specs.Subtrees.{barred_in, rows_below, subtree_entries, setting}
+use Rattle.tx_map.specs.Subtrees.{rows_below, setting}
 use Rattle.tx_map.specs.declared.entry.Entry.{Entry}
 use Rattle.tx_map.proofs.Settings.{set_row, set_entries}
 use Rattle.tx_read.specs.Reading.{◌>>=◌}
 use Rattle.tx_scroll.specs.Clip.{clipped, common, common_columns, common_rows, overlap}
 use Rattle.tx_scroll.specs.declared.trials.Barred.{Barred}
-use Rattle.tx_sizes.specs.Forest.{Styled, Forest, Empty, Grown, depth, forest, under}
+use Rattle.tx_sizes.specs.Forest.{Styled, Forest, Empty, Grown, depth, forest}
 use Rattle.tx_sizes.specs.Laws.{AreDeeper, BeginsBeside, SubtreesStandAlone}
 use Rattle.tx_sizes.specs.Measures.{Measure, boxes, is_taking_part, measures}
-use Rattle.tx_tree.specs.declared.row.NodeId.{NodeId}
 
 -- ---- subtrees
 

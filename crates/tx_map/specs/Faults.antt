@@ -1,5 +1,5 @@
 -- What a call that goes over the rows answers.
-use Rattle.std.specs.Prelude.{◌≡◌, ℕ, List, ◌++◌, Option, Some, None, Result, Ok, Err}
+use Rattle.std.specs.Prelude.{◌≡◌, List, ◌++◌, Option, Some, None, Result, Ok, Err}
 use Rattle.tx_geom.specs.declared.choices.Axis.{Axis}
 use Rattle.tx_map.specs.LayoutMap.{Mapped}
 use Rattle.tx_map.specs.declared.fault.ComposeFault.{ComposeFault}

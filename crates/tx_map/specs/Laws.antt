@@ -1,5 +1,5 @@
 -- What holds of every map.
-use Rattle.std.specs.Prelude.{◌≡◌, ℕ, pos, List, [], ◌∷◌, ◌++◌, Ok, All}
+use Rattle.std.specs.Prelude.{◌≡◌, pos, List, [], ◌∷◌, ◌++◌, Ok, All}
 use Rattle.tx_geom.specs.Along.{region_of}
 use Rattle.tx_geom.specs.Region.{Holds}
 use Rattle.tx_geom.specs.declared.places.Offset.{Offset}

@@ -1,5 +1,5 @@
 -- A row and the rows behind it in preorder.
-use Rattle.std.specs.Prelude.{ℕ, List, [], Option, Result, Ok, if◌then◌else◌}
+use Rattle.std.specs.Prelude.{◌≡◌, ℕ, ◌≤◌, All, List, [], Option, Result, Ok, if◌then◌else◌}
 use Rattle.tx_geom.specs.declared.choices.Axis.{Axis}
 use Rattle.tx_geom.specs.declared.places.Region.{Region}
 use Rattle.tx_geom.specs.declared.places.Size.{Size}
@@ -52,3 +52,8 @@ regions_taken row = if is_taking_part row then 1 else 0
 -- the entries of all children of a container at a depth
 abbrev pub children_entries : Scene → ℕ → List Styled → Container → List (Option Region) → Mapped (List Entry)
 children_entries scene depth rows above regions = entries scene (under depth (forest rows)) above 0 regions
+
+-- the first row is that of the Screen, and none is deeper than 63
+pub record IsRooted (own : Styled) (behind : List Styled) : Type 0 where
+  pub first : depth own ≡ 0
+  pub deep : All (λ row. depth row ≤ 63) behind

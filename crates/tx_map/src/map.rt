@@ -1,12 +1,15 @@
 //! The map of all rows.
 
-ghost use Rattle.std.specs.Prelude.{◌≡◌, ◌*◌, length, slice_get, IfOk, option_copied};
+ghost use Rattle.std.specs.Prelude.{◌≡◌, ◌+◌, ◌*◌, ◌<◌, ◌≤◌, ◌∷◌, length, drop, slice_get, IfOk, option_copied};
+ghost use Rattle.std.specs.List.{prefix_len};
 ghost use Rattle.tx_map.specs.Faults.{told};
-ghost use Rattle.tx_map.specs.LayoutMap.{layout_map};
+ghost use Rattle.tx_map.specs.LayoutMap.{layout_map, screen_place};
 ghost use Rattle.tx_map.specs.Lookup.{AreFound, entry_of};
 ghost use Rattle.tx_map.specs.Present.{scene_of};
+ghost use Rattle.tx_map.specs.Subtrees.{IsRooted, setting, subtree_entries};
 ghost use Rattle.tx_map.specs.Ticks.{ArrangedAtMost};
-ghost use Rattle.tx_node_map.specs.Held.{held};
+ghost use Rattle.tx_node_map.specs.Held.{held, nothing};
+ghost use Rattle.tx_sizes.specs.Counts.{counts, is_deeper};
 ghost use Rattle.tx_read.specs.Answer.{Gives};
 
 use crate::entry::Entry;
@@ -20,9 +23,57 @@ use tx_cascade::Styles;
 use tx_geom::{Offset, Region, Size};
 use tx_io::{Ledger, Steps};
 use tx_node_map::NodeMap;
-use tx_sizes::{counts_below, styled_rows};
+use tx_sizes::{StyledRow, counts_below, styled_rows};
 use tx_text::NoMemory;
 use tx_tree::{NodeId, Tree};
+
+// The first of some rows.
+fn first_of<'a, 'b>(rows: &'b [StyledRow<'a>]) -> &'b StyledRow<'a>
+    requires { 0 < length rows.now }
+    ensures { rows.now ≡ result.now ∷ drop 1 rows.now }
+{
+    &rows[0]
+}
+
+// The rows behind the first one, and of these how many are below each.
+fn behind_first<'a, 'b, 'c>(
+    rows: &'b [StyledRow<'a>],
+    below: &'c [u32],
+) -> (&'b [StyledRow<'a>], &'c [u32])
+    requires some { 0 < length rows.now }
+    requires below { below.now ≡ counts rows.now }
+    ensures rows { result.0.now ≡ drop 1 rows.now }
+    ensures counts { result.1.now ≡ counts result.0.now }
+{
+    (rows.split_at(1).1, below.split_at(1).1)
+}
+
+// The entries of the Screen, which fills the screen, and of the rows behind it.
+fn entries_from<L: Ledger>(
+    alloc: Global,
+    own: &StyledRow<'_>,
+    behind: &[StyledRow<'_>],
+    below: &[u32],
+    scrolls: &Scrolls,
+    size: Size,
+    steps: &mut Steps<L>,
+) -> Result<Vec<Entry>, ComposeFault>
+    requires below { below.now ≡ counts behind.now }
+    requires few { length behind.now ≤ 65535 }
+    requires rooted { IsRooted own.now behind.now }
+    ensures exact { Gives (λ entries. entries.items) told result (subtree_entries (setting nothing (held scrolls.now) size) own.now behind.now (screen_place size)) }
+    ensures ticks { ArrangedAtMost L.ticked (4 * (1 + prefix_len (is_deeper own.now.row.depth) behind.now)) steps.old.ledger steps.new.ledger }
+{
+    let screen = Region::of(Offset { x: 0, y: 0 }, size);
+    let key: [u32; 0] = [];
+    let mut found = Vec::new(alloc);
+    match push_row(
+        alloc, own, behind, below, screen, screen, &key, scrolls, size, &mut found, steps,
+    ) {
+        Ok(()) => Ok(found),
+        Err(fault) => Err(fault),
+    }
+}
 
 // The entries of all rows of a tree that take part, in the order of the document.
 fn entries_of<L: Ledger>(
@@ -44,26 +95,8 @@ fn entries_of<L: Ledger>(
     let Ok(below) = counts_below(alloc, &rows) else {
         return Err(ComposeFault::NoMemory);
     };
-    let Some((own, behind)) = rows.split_first() else {
-        unreachable!()
-    };
-    let screen = Region::of(Offset { x: 0, y: 0 }, size);
-    let key: [u32; 0] = [];
-    let mut found = Vec::new(alloc);
-    push_row(
-        alloc,
-        own,
-        behind,
-        &below[1..],
-        screen,
-        screen,
-        &key,
-        scrolls,
-        size,
-        &mut found,
-        steps,
-    )?;
-    Ok(found)
+    let (behind, counts) = behind_first(&rows, &below);
+    entries_from(alloc, first_of(&rows), behind, counts, scrolls, size, steps)
 }
 
 // Where the entry of each node stands.

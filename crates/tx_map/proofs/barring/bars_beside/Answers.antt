@@ -1,4 +1,4 @@
-use Rattle.std.proofs.Common.{◌≡◌, ℕ, ◌<◌, Option, sym, subst}
+use Rattle.std.proofs.Common.{ℕ, ◌<◌, Option, sym, subst}
 use Rattle.tx_layout.specs.Ask.{IsAnswer}
 use Rattle.tx_map.proofs.Bars.{child_answer}
 use Rattle.tx_node_map.specs.Held.{nothing}

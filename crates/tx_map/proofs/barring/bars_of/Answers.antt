@@ -1,4 +1,4 @@
-use Rattle.std.proofs.Common.{◌≡◌, ◌≤◌, length, Ok, sym, ap, ◌∙◌, subst, arith}
+use Rattle.std.proofs.Common.{length, Ok, sym, ap, ◌∙◌, arith}
 use Rattle.tx_map.proofs.Bars.{container_bars, leaf_bars}
 use Rattle.tx_map.proofs.Rows.{few_boxes}
 use Rattle.tx_map.proofs.barring.bars_of.Goals as goal

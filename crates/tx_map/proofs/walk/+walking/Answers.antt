@@ -1,4 +1,4 @@
-use Rattle.std.proofs.Common.{◌≡◌, ℕ, suc, ◌+◌, ◌*◌, ◌<◌, ◌≤◌, List, [], ◌∷◌, ◌++◌, length, drop, slice_index, Option, Ok, sym, ap, ◌∙◌, subst, arith}
+use Rattle.std.proofs.Common.{◌≡◌, List, [], ◌∷◌, ◌++◌, length, Option, Ok, sym, ap, ◌∙◌, subst, arith}
 use Rattle.std.specs.List.{prefix_len}
 use Rattle.std.specs.Prelude.{unwrap_or}
 use Rattle.tx_geom.specs.declared.places.Region.{Region}
@@ -11,15 +11,15 @@ use Rattle.tx_map.specs.declared.entry.Entry.{Entry}
 use Rattle.tx_map.specs.declared.fault.ComposeFault.{ComposeFault}
 use Rattle.tx_map.specs.declared.places.Frame.{Frame}
 use Rattle.tx_map.proofs.Adding.{child_part, entry_made, frame_made, row_done, row_size, same_place, without_bars}
-use Rattle.tx_map.proofs.Rows.{Child, child_at, ends_all, ends_here, length_counts}
+use Rattle.tx_map.proofs.Rows.{child_at, ends_all, ends_here, length_counts}
 use Rattle.tx_map.proofs.Ticking.{arranged_both, arranged_more}
 use Rattle.tx_map.proofs.Walking.{gone_all, gone_next, gone_refused, gone_refused_ticks}
 use Rattle.tx_look.specs.Layers.{layer_number}
 use Rattle.tx_node_map.specs.Held.{held, nothing}
 use Rattle.tx_read.specs.Answer.{Tells}
 use Rattle.tx_scroll.specs.Scroll.{kept_scroll}
-use Rattle.tx_sizes.specs.Counts.{counts, is_deeper}
-use Rattle.tx_sizes.specs.Forest.{Styled, depth}
+use Rattle.tx_sizes.specs.Counts.{is_deeper}
+use Rattle.tx_sizes.specs.Forest.{depth}
 use Rattle.tx_tree.specs.declared.row.NodeId.{NodeId}
 use Rattle.tx_tree.specs.declared.row.Row.{Row}
 use Rattle.tx_value.specs.StyleReads.{dock, overflow_x, overflow_y}

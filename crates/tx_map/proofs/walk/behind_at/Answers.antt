@@ -1,4 +1,4 @@
-use Rattle.std.proofs.Common.{◌≡◌, ◌+◌, ◌≤◌, length, drop, sym, ap, ◌∙◌, arith}
+use Rattle.std.proofs.Common.{◌+◌, length, drop, sym, ap, ◌∙◌, arith}
 use Rattle.tx_map.proofs.Rows.{counts_drop, length_counts}
 use Rattle.tx_sizes.specs.Counts.{counts}
 use Rattle.tx_map.proofs.walk.behind_at.Goals as goal

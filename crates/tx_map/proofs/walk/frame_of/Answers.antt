@@ -1,4 +1,4 @@
-use Rattle.std.proofs.Common.{◌≡◌, ℕ, ◌+◌, ◌^◌, ◌≤◌, sym, ap, ◌∙◌, subst, arith}
+use Rattle.std.proofs.Common.{◌≡◌, ℕ, ◌+◌, ◌^◌, sym, ap, ◌∙◌, subst, arith}
 use Rattle.tx_geom.specs.Along.{region_of}
 use Rattle.tx_geom.specs.Region.{corner}
 use Rattle.tx_geom.specs.declared.places.Region.{Region}

@@ -1,4 +1,4 @@
-use Rattle.std.proofs.Common.{◌≡◌, List, None, Some, ap, ◌∙◌, subst}
+use Rattle.std.proofs.Common.{◌≡◌, List, None, ap, ◌∙◌, subst}
 use Rattle.std.specs.Prelude.{option_copied, slice_get}
 use Rattle.tx_map.specs.Lookup.{entry_of}
 use Rattle.tx_map.specs.declared.entry.Entry.{Entry}

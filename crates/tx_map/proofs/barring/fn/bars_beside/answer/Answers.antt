@@ -1,4 +1,4 @@
-use Rattle.std.proofs.Common.{◌≡◌, ◌<◌, ◌≤◌, length, drop, slice_index, sym, ap, ◌∙◌, arith}
+use Rattle.std.proofs.Common.{length, drop, slice_index, sym, ap, ◌∙◌, arith}
 use Rattle.std.proofs.lemmas.List.{length-drop}
 use Rattle.tx_map.proofs.Rows.{counts_drop, length_counts}
 use Rattle.tx_sizes.specs.Counts.{counts}
