@@ -131,7 +131,13 @@ fn scrolls_are_kept_by_node(rt: HostRuntime) -> Result<(), Fail> {
     expect(
         scrolls.get(NodeId(5)).copied() == Some((9, 7)),
         "a changed one",
-    )?;
+    )
+}
+
+#[test]
+fn scrolls_are_replaced_and_removed(rt: HostRuntime) -> Result<(), Fail> {
+    let mut scrolls = Scrolls::new(rt.alloc());
+    scrolls.insert(NodeId(2), (3, 4))?;
     scrolls.insert(NodeId(2), (1, 1))?;
     expect(
         scrolls.get(NodeId(2)).copied() == Some((1, 1)),

@@ -1,3 +1,5 @@
+ghost use Rattle.std.specs.Prelude.{◌≡◌};
+
 use crate::measures::rows_from;
 use crate::{counts_below, measure, styled_rows};
 use std::alloc::Global;
@@ -8,8 +10,10 @@ use tx_expect::each_line;
 use tx_geom::Size;
 use tx_io::{Counted, Steps};
 use tx_layout::LayoutFault;
+use tx_parse::Sheet;
 use tx_select::Pseudo;
 use tx_test_kit::{sheet_of, tree_of};
+use tx_tree::Tree;
 
 const STILL: Pseudo = Pseudo {
     focused: None,
@@ -44,37 +48,80 @@ fn width_of(word: &str) -> Result<Option<u32>, Fail> {
     Ok(Some(number_of(word)?))
 }
 
-// What the row with a number, counted from the Screen as 1, measures: `TREE | SHEET | NUMBER WIDTH COLUMNS ROWS`.
-fn measured(alloc: Global, line: &str) -> Result<String, Fail> {
+// A tree, a sheet and what is asked, between ` | `.
+fn parts_of(line: &str) -> Result<(&str, &str, &str), Fail> {
     let (rows, rest) = line.split_once(" | ").ok_or("a tree")?;
     let (sheet, asked) = rest.split_once(" | ").ok_or("a sheet")?;
-    let (number, rest) = asked.split_once(' ').ok_or("a row")?;
-    let (width, rest) = rest.split_once(' ').ok_or("a width")?;
-    let (columns, tall) = rest.split_once(' ').ok_or("an area")?;
-    let lines = lines_of(alloc, rows)?;
-    let tree = tree_of(alloc, lines.as_str())?;
-    let sheet = sheet_of(alloc, sheet)?;
-    let mut steps = Steps {
-        ledger: Counted::default(),
-    };
-    let styles = Styles::open(alloc, &sheet, &tree, &STILL, &mut steps)?;
-    let rows = styled_rows(alloc, &tree, &styles)?;
-    let below = counts_below(alloc, &rows)?;
-    let number = number_of(number)?;
-    if number == 0 || number as usize > rows.len() {
-        return Err(Fail::from("no such row"));
-    }
-    let (from, counts) = rows_from(&rows, &below, number - 1);
-    let area = Size {
+    Ok((rows, sheet, asked))
+}
+
+fn area_of(text: &str) -> Result<Size, Fail> {
+    let (columns, rows) = text.split_once(' ').ok_or("an area")?;
+    Ok(Size {
         width: number_of(columns)?,
-        height: number_of(tall)?,
-    };
-    let width = width_of(width)?;
-    match measure(alloc, from, counts, SCREEN, width, area) {
+        height: number_of(rows)?,
+    })
+}
+
+fn answer_text(alloc: Global, answer: Result<u32, LayoutFault>) -> Result<String, Fail> {
+    match answer {
         Ok(size) => Ok(format!(in alloc; "{size}")?),
         Err(LayoutFault::Fraction { axis: _ }) => Ok(format!(in alloc; "undefined")?),
         Err(LayoutFault::NoMemory) => Err(Fail::from("no memory")),
     }
+}
+
+// What the row with a number, counted from the Screen as 1, measures.
+fn measured_at(
+    alloc: Global,
+    tree: &Tree,
+    styles: &Styles,
+    number: u32,
+    width: Option<u32>,
+    area: Size,
+) -> Result<String, Fail>
+    requires { styles.now.rows ≡ tree.now.rows }
+{
+    let rows = styled_rows(alloc, tree, styles)?;
+    let below = counts_below(alloc, &rows)?;
+    if number == 0 || number as usize > rows.len() {
+        return Err(Fail::from("no such row"));
+    }
+    let (from, counts) = rows_from(&rows, &below, number - 1);
+    answer_text(alloc, measure(alloc, from, counts, SCREEN, width, area))
+}
+
+// The same of `NUMBER WIDTH COLUMNS ROWS`.
+fn measured_as(alloc: Global, tree: &Tree, styles: &Styles, asked: &str) -> Result<String, Fail>
+    requires { styles.now.rows ≡ tree.now.rows }
+{
+    let (number, rest) = asked.split_once(' ').ok_or("a row")?;
+    let (width, area) = rest.split_once(' ').ok_or("a width")?;
+    let number = number_of(number)?;
+    let width = width_of(width)?;
+    measured_at(alloc, tree, styles, number, width, area_of(area)?)
+}
+
+fn styled_and_measured(
+    alloc: Global,
+    tree: &Tree,
+    sheet: &Sheet,
+    asked: &str,
+) -> Result<String, Fail> {
+    let mut steps = Steps {
+        ledger: Counted::default(),
+    };
+    let styles = Styles::open(alloc, sheet, tree, &STILL, &mut steps)?;
+    measured_as(alloc, tree, &styles, asked)
+}
+
+// The same of `TREE | SHEET | NUMBER WIDTH COLUMNS ROWS`.
+fn measured(alloc: Global, line: &str) -> Result<String, Fail> {
+    let (rows, sheet, asked) = parts_of(line)?;
+    let lines = lines_of(alloc, rows)?;
+    let tree = tree_of(alloc, lines.as_str())?;
+    let sheet = sheet_of(alloc, sheet)?;
+    styled_and_measured(alloc, &tree, &sheet, asked)
 }
 
 #[test]

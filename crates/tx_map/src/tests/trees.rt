@@ -7,8 +7,9 @@ use std::rt::HostRuntime;
 use std::test::Fail;
 use tx_expect::each_line;
 use tx_geom::Size;
+use tx_parse::Sheet;
 use tx_test_kit::{sheet_of, tree_of};
-use tx_tree::NodeId;
+use tx_tree::{NodeId, Tree};
 
 // A text with line feeds in place of `/`, and one at its end.
 fn lines_of(alloc: Global, text: &str) -> Result<String, Fail> {
@@ -40,18 +41,35 @@ fn scrolls_of(alloc: Global, text: &str) -> Result<Scrolls, Fail> {
     Ok(scrolls)
 }
 
-// The map of a tree: `WIDTH HEIGHT | TREE | SHEET | SCROLLS`.
-fn mapped(alloc: Global, line: &str) -> Result<String, Fail> {
+// A size, a tree, a sheet and scrolls, between ` | `.
+fn parts_of(line: &str) -> Result<(&str, &str, &str, &str), Fail> {
     let (size, rest) = line.split_once(" | ").ok_or("a size")?;
     let (rows, rest) = rest.split_once(" | ").ok_or("a tree")?;
     let (sheet, scrolls) = rest.split_once(" |").ok_or("a sheet")?;
+    Ok((size, rows, sheet, scrolls))
+}
+
+// The map of a tree under a sheet, with a size and scrolls as texts.
+fn mapped_in(
+    alloc: Global,
+    tree: &Tree,
+    sheet: &Sheet,
+    size: &str,
+    scrolls: &str,
+) -> Result<String, Fail> {
+    let scrolls = scrolls_of(alloc, scrolls)?;
+    let (width, height) = pair_of(size)?;
+    let map = map_of(alloc, sheet, tree, &scrolls, Size { width, height })?;
+    map_text(alloc, &map)
+}
+
+// The map of a tree: `WIDTH HEIGHT | TREE | SHEET | SCROLLS`.
+fn mapped(alloc: Global, line: &str) -> Result<String, Fail> {
+    let (size, rows, sheet, scrolls) = parts_of(line)?;
     let lines = lines_of(alloc, rows)?;
     let tree = tree_of(alloc, lines.as_str())?;
     let sheet = sheet_of(alloc, sheet)?;
-    let scrolls = scrolls_of(alloc, scrolls)?;
-    let (width, height) = pair_of(size)?;
-    let map = map_of(alloc, &sheet, &tree, &scrolls, Size { width, height })?;
-    map_text(alloc, &map)
+    mapped_in(alloc, &tree, &sheet, size, scrolls)
 }
 
 #[test]
@@ -114,9 +132,8 @@ fn the_first_undefined_container_is_told(rt: HostRuntime) -> Result<(), Fail> {
     )
 }
 
-// The container of a text of a hundred lines, at its end.
-fn long_text(alloc: Global, line: &str) -> Result<String, Fail> {
-    let (width, height) = pair_of(line)?;
+// A container with a text of a hundred lines.
+fn long_tree(alloc: Global) -> Result<Tree, Fail> {
     let mut text = String::new(alloc);
     text.push_str("Screen\n  VerticalScroll\n    Static \"l1")?;
     for number in 2..101 {
@@ -124,7 +141,13 @@ fn long_text(alloc: Global, line: &str) -> Result<String, Fail> {
         text.push_str(line.as_str())?;
     }
     text.push_str("\"\n")?;
-    let tree = tree_of(alloc, text.as_str())?;
+    Ok(tree_of(alloc, text.as_str())?)
+}
+
+// The container at its end.
+fn long_text(alloc: Global, line: &str) -> Result<String, Fail> {
+    let (width, height) = pair_of(line)?;
+    let tree = long_tree(alloc)?;
     let sheet = sheet_of(alloc, "Label { }")?;
     let scrolls = scrolls_of(alloc, "2:0 999")?;
     match map_of(alloc, &sheet, &tree, &scrolls, Size { width, height })? {
