@@ -5,7 +5,7 @@ use crate::{LayoutMap, Scrolls};
 use std::alloc::Global;
 use std::rt::HostRuntime;
 use std::test::Fail;
-use tx_expect::each_line;
+use tx_expect::expect;
 use tx_geom::Size;
 use tx_test_kit::{sheet_of, tree_of};
 use tx_tree::{Name, NodeId, Tree};
@@ -58,13 +58,25 @@ fn region_of(alloc: Global, map: &LayoutMap, tree: &Tree, id: &str) -> Result<St
     }
 }
 
+// Fails unless each row stands where its line says.
+fn all_stand(alloc: Global, map: &LayoutMap, tree: &Tree, table: &str) -> Result<(), Fail> {
+    for line in table.split('\n') {
+        let Some((id, wanted)) = line.split_once(" => ") else {
+            return Err(Fail::from("a line of the table"));
+        };
+        let region = region_of(alloc, map, tree, id)?;
+        expect(region.as_str() == wanted, "a region")?;
+    }
+    Ok(())
+}
+
 // Fails unless the rows of these ids stand there.
-fn stands_so(alloc: Global, size: Size, table: &'static str) -> Result<(), Fail> {
+fn stands_so(alloc: Global, size: Size, table: &str) -> Result<(), Fail> {
     let tree = tree_of(alloc, TREE)?;
     let sheet = sheet_of(alloc, SHEET)?;
     let scrolls = Scrolls::new(alloc);
     match map_of(alloc, &sheet, &tree, &scrolls, size)? {
-        Ok(map) => each_line(table, |id: &str| region_of(alloc, &map, &tree, id)),
+        Ok(map) => all_stand(alloc, &map, &tree, table),
         Err(_) => Err(Fail::from("a map")),
     }
 }
