@@ -22,7 +22,7 @@ cluster_columns pen cluster = option_map_or with_tail (cell_of cluster pen) []
 unfoldable pub line_cells : List ℕ → Pen → List CellValue
 line_cells line pen = flat_map (cluster_columns pen) (graphemes true line)
 
--- the cells are well formed behind one that owes such a tail: the tail comes first where one is owed, each other cell is
+-- the cells are well formed after one that owes such a tail: the tail comes first where one is owed, each other cell is
 -- the one that its own text makes, and a wide one is followed by its tail
 abbrev pub IsWellFormedAfter : Option CellValue → List CellValue → Type 0
 IsWellFormedAfter None [] = ⊤
@@ -42,7 +42,7 @@ without_tail cell = if nat_lt 1 cell.width then blank cell.pen else cell
 abbrev pub without_head : CellValue → CellValue
 without_head cell = if cell.tail then blank cell.pen else cell
 
--- the cells behind a cut
+-- the cells after a cut
 abbrev pub cut_front : List CellValue → List CellValue
 cut_front [] = []
 cut_front (cell ∷ cells) = without_head cell ∷ cells
@@ -53,7 +53,7 @@ cut_end [] = []
 cut_end (cell ∷ []) = without_tail cell ∷ []
 cut_end (cell ∷ next ∷ cells) = cell ∷ cut_end (next ∷ cells)
 
--- a cell behind the cut at the start of a part, where it is the first one
+-- a cell after the cut at the start of a part, where it is the first one
 abbrev pub behind_start : Bool → CellValue → CellValue
 behind_start is_first cell = if is_first then without_head cell else cell
 
@@ -75,7 +75,7 @@ abbrev pub AreCuts : ℕ → ℕ → List ℕ → Type 0
 AreCuts from to [] = from ≤ to
 AreCuts from to (cut ∷ cuts) = (from ≤ cut) × AreCuts cut to cuts
 
--- all cells, one list behind the other
+-- all cells, one list after the other
 abbrev pub joined : List (List CellValue) → List CellValue
 joined parts = flat_map (λ part. part) parts
 

@@ -34,7 +34,7 @@ abbrev pub fit_count : ℕ → List CellValue → ℕ
 fit_count room [] = 0
 fit_count room (cell ∷ cells) = if nat_le cell.width room then suc (fit_count (room - cell.width) cells) else 0
 
--- the index of the last blank behind the first cell, or of the first one where it is a blank itself
+-- the index of the last blank after the first cell, or of the first one where it is a blank itself
 abbrev pub later_blank : Bool → Option ℕ → Option ℕ
 later_blank here (Some index) = Some (suc index)
 later_blank true None = Some 0
@@ -55,12 +55,12 @@ abbrev pub skip_blanks : List CellValue → List CellValue
 skip_blanks [] = []
 skip_blanks (cell ∷ cells) = if is_blank cell then skip_blanks cells else cell ∷ cells
 
--- a line and the cells behind it, where `count` cells fit and a blank stands at the index after this one
+-- a line and the cells after it, where `count` cells fit and a blank stands at the index after this one
 abbrev pub broken_at : Option ℕ → ℕ → List CellValue → List CellValue × List CellValue
 broken_at None count cells = (take count cells, drop count cells)
 broken_at (Some index) count cells = (trimmed (take (suc index) cells), skip_blanks (drop (suc index) cells))
 
--- The first line and the cells behind it. Cells that fit are kept. Else the line ends before the last blank at an index from 1 to
+-- The first line and the cells after it. Cells that fit are kept. Else the line ends before the last blank at an index from 1 to
 -- the count of those that fit, and where there is none it has as many as fit.
 abbrev pub next_line : ℕ → List CellValue → List CellValue × List CellValue
 next_line width cells =
@@ -94,7 +94,7 @@ wrapped_text width pen text = flat_map (wrapped_line width pen) (text_lines text
 abbrev pub text_cells : Pen → List ℕ → List CellValue
 text_cells pen text = flat_map (λ line. line_cells line pen) (text_lines text)
 
--- the lines one behind the other, with blanks behind each, are these cells
+-- the lines one after the other, with blanks after each, are these cells
 abbrev pub AreLinesOf : List CellValue → List (List CellValue) → Type 0
 AreLinesOf cells [] = cells ≡ []
 AreLinesOf cells (line ∷ lines) =

@@ -15,7 +15,7 @@ pub(crate) fn blank_wide_end(cells: &mut [Cell])
     }
 }
 
-// A tail at the front, whose wide cell is cut off, becomes a blank.
+// A tail at the start, whose wide cell is cut off, becomes a blank.
 pub(crate) fn blank_tail_front(cells: &mut [Cell])
     ensures cells { cells.new ≡ cut_front cells.old }
 {

@@ -109,7 +109,7 @@ impl Strip {
         }
     }
 
-    /// The strip cut in front of each of these columns: the crops from cut to cut.
+    /// The strip cut before each of these columns: the crops from cut to cut.
     ///
     /// The first part begins at column 0, and the last one ends with the strip, so there is one
     /// part more than cuts. The cuts don't fall, and none is past the end.
@@ -129,7 +129,7 @@ impl Strip {
     }
 }
 
-/// The cells of these strips, one behind the other. They have fewer than 2^32 cells in all.
+/// The cells of these strips, one after the other. They have fewer than 2^32 cells in all.
 pub fn join(alloc: Global, parts: &[Strip]) -> Result<Strip, AllocError>
     requires short { length (joined parts.now) < 2 ^ 32 }
     ensures cells { IfOk result (λ strip. strip ≡ joined parts.now) }
@@ -180,7 +180,7 @@ impl<'a> Cropped<'a> {
     }
 }
 
-// The cell of a part, where it may be the first one, behind the cut.
+// The cell of a part, where it may be the first one, after the cut.
 fn behind_start(is_first: bool, cell: Cell) -> Cell
     ensures { result ≡ behind_start is_first cell }
 {

@@ -13,8 +13,8 @@ use unicode_segmentation::UnicodeSegmentation;
 
 /// The lines of a text, each wrapped at so many columns.
 ///
-/// A line that fits is kept. Else it breaks at the last blank behind its first cell and no later
-/// than the first cell that doesn't fit, and the blanks before and behind the break are dropped;
+/// A line that fits is kept. Else it breaks at the last blank after its first cell and no later
+/// than the first cell that doesn't fit, and the blanks before and after the break are dropped;
 /// where there is no such blank it breaks before the cell that doesn't fit. What is left goes on
 /// in the same way. At width 1 U+FFFD stands for a wide cell, and at width 0 each line of the text
 /// is one empty line. The text has fewer than 2^32 bytes.

@@ -18,7 +18,7 @@ pub record FilesSeen : Type 0 where
   pub loads : Option (List Load)
   pub faults : ℕ
 
--- further loads behind those that are told
+-- further loads after those that are told
 abbrev pub append_loads : Option (List Load) → List Load → Option (List Load)
 append_loads told loads = option_map (λ past. past ++ loads) told
 

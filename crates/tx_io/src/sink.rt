@@ -2,7 +2,7 @@ ghost use Rattle.std.specs.Prelude.{◌≡◌, ◌≤◌, ◌<◌, length, take,
 ghost use Rattle.std.specs.Io.KnownBytes.{append_known};
 ghost use Rattle.tx_io.specs.Faults.{raised};
 
-/// A call on an object of the outside that failed. What went wrong isn't told.
+/// A call on an object of the outside that failed. What went wrong isn't reported.
 #[derive(Clone, Copy, Debug, PartialEq, Eq)]
 pub struct Failed;
 

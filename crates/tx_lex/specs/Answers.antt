@@ -8,7 +8,7 @@ use Rattle.tx_lex.specs.declared.token.Token.{Token}
 use Rattle.tx_lex.specs.declared.token.LexFault.{LexFault}
 use Rattle.tx_lex.specs.declared.token.LexFault.TheVariants.{Text, NoMemory}
 
--- a token, and the spot behind it
+-- a token, and the spot after it
 abbrev pub with_spot : List ℕ → Token → Token × Spot
 with_spot bytes token = (token, spot_at bytes token.to)
 
@@ -20,7 +20,7 @@ all_or_first tokens (Some fault) = Err (fault.place, fault.kind)
 abbrev pub all_tokens : Scanned → Result (List Token) (ℕ × LexKind)
 all_tokens read = all_or_first read.tokens read.fault
 
--- what a fault tells: want of memory tells nothing
+-- what a fault tells: out of memory tells nothing
 abbrev pub told : LexFault → Option (ℕ × LexKind)
 told (Text place kind) = Some (place, kind)
 told NoMemory = None

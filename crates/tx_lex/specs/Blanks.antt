@@ -2,7 +2,7 @@
 use Rattle.std.specs.Prelude.{List, [], ◌∷◌, not, filter, if◌then◌else◌}
 use Rattle.tx_lex.specs.Lexemes.{Lexeme, is_blank}
 
--- what is behind spaces and comments
+-- what is after spaces and comments
 abbrev pub past_blanks : List Lexeme → List Lexeme
 past_blanks [] = []
 past_blanks (t ∷ ts) = if is_blank t.kind then past_blanks ts else t ∷ ts

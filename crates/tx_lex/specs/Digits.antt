@@ -5,6 +5,6 @@ use Rattle.std.specs.Prelude.{ℕ}
 abbrev pub most_whole : ℕ
 most_whole = 9
 
--- behind its point
+-- after its point
 abbrev pub most_decimals : ℕ
 most_decimals = 18

@@ -9,7 +9,7 @@ use Rattle.tx_lex.specs.declared.token.Scanned.{Scanned}
 use Rattle.tx_lex.specs.declared.token.Wrong.{Wrong}
 use Rattle.tx_lex.specs.declared.token.TokenKind.{TokenKind}
 
--- a token and what is behind it: the longest one of all kinds, and nothing is wrong in it
+-- a token and what is after it: the longest one of all kinds, and nothing is wrong in it
 pub record IsTokenAt (spot : Spot) (token : Token) (behind : Spot) : Type 0 where
   pub n : ℕ
   pub longest : IsLongestToken spot.rest token.kind n
@@ -37,7 +37,7 @@ abbrev pub EndsWith : Spot → Option Fault → Type 0
 EndsWith spot None = spot.rest ≡ []
 EndsWith spot (Some fault) = IsNoToken spot fault ⊎ IsWrongToken spot fault
 
--- tokens one behind another from the first byte on, up to the last one or the first fault
+-- tokens one after another from the first byte on, up to the last one or the first fault
 pub record IsLexed (bytes : List ℕ) (read : Scanned) : Type 0 where
   pub last : Spot
   pub tokens : Items IsTokenAt (start_of bytes) read.tokens last

@@ -37,7 +37,7 @@ abbrev pub with_point : Option ℕ → ℕ
 with_point None = 0
 with_point (Some n) = n + 1
 
--- behind the whole digits: a point with digits, or none, and a unit
+-- after the whole digits: a point with digits, or none, and a unit
 abbrev pub behind_whole_len : List ℕ → ℕ
 behind_whole_len [] = 0
 behind_whole_len (b ∷ bytes) = if nat_eq b 46 then with_point (behind_point_len bytes) else unit_len (b ∷ bytes)
@@ -74,12 +74,12 @@ opens_comment (a ∷ b ∷ bytes) = nat_eq a 47 && nat_eq b 42
 unfoldable pub comment_len : List ℕ → Option ℕ
 comment_len bytes = if opens_comment bytes then option_map (λ n. n + 2) (close_len (drop 2 bytes)) else None
 
--- behind a `#`
+-- after a `#`
 abbrev pub hash_len : List ℕ → Option ℕ
 hash_len [] = None
 hash_len (b ∷ bytes) = if continues_name b then Some (2 + prefix_len continues_name bytes) else None
 
--- behind a `$`
+-- after a `$`
 abbrev pub variable_len : List ℕ → Option ℕ
 variable_len [] = None
 variable_len (b ∷ bytes) = if begins_name b then Some (2 + prefix_len continues_name bytes) else None
@@ -110,12 +110,12 @@ longest_token (b ∷ bytes) =
 
 -- ---- what is wrong at a place
 
--- how many digits stand behind a point
+-- how many digits stand after a point
 abbrev pub decimals_of : List ℕ → ℕ
 decimals_of [] = 0
 decimals_of (b ∷ bytes) = if nat_eq b 46 then prefix_len is_ascii_digit bytes else 0
 
--- more digits before the point than are allowed, or behind it
+-- more digits before the point than are allowed, or after it
 abbrev pub has_many_digits : List ℕ → Bool
 has_many_digits bytes =
     let digits = prefix_len is_ascii_digit bytes in
@@ -139,7 +139,7 @@ wrong_in _ bytes = None
 abbrev pub wrong_here : List ℕ → LexKind
 wrong_here bytes = if opens_comment bytes then Unclosed else BadByte
 
--- ---- tokens one behind another
+-- ---- tokens one after another
 
 -- a place in the bytes, and what stands from there on
 pub record Spot : Type 0 where
@@ -155,7 +155,7 @@ token_of spot kind n = record { kind = kind; from = spot.place; to = spot.place 
 abbrev pub spot_behind : Spot → ℕ → Spot
 spot_behind spot n = record { place = spot.place + n; rest = drop n spot.rest }
 
--- the token, if it is a comment: the only kind in which a fault lies behind the first byte
+-- the token, if it is a comment: the only kind in which a fault lies after the first byte
 abbrev pub if_comment : TokenKind → Token → Option Token
 if_comment Comment token = Some token
 if_comment _ token = None

@@ -59,7 +59,7 @@ abbrev pub is_decimals : List ℕ → Bool
 is_decimals [] = true
 is_decimals (b ∷ bytes) = if is_ascii_digit b then is_decimals bytes else is_unit (b ∷ bytes)
 
--- what stands behind a point: a digit or more, then a unit
+-- what stands after a point: a digit or more, then a unit
 abbrev pub is_behind_point : List ℕ → Bool
 is_behind_point [] = false
 is_behind_point (b ∷ bytes) = is_ascii_digit b && is_decimals bytes

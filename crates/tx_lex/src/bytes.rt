@@ -1,4 +1,4 @@
-//! Classes of bytes, and how many of a class stand at the front.
+//! Classes of bytes, and how many of a class stand at the start.
 ghost use Rattle.std.specs.Prelude.{◌≡◌, ◌≤◌, length};
 ghost use Rattle.std.specs.Char.{is_ascii_alphabetic};
 ghost use Rattle.std.specs.List.{prefix_len};
@@ -29,7 +29,7 @@ pub fn blanks(bytes: &[u8]) -> usize
     bytes.iter().take_while(|byte| is_blank(**byte)).count()
 }
 
-/// How many letters, digits, `_` and `-` stand at the front.
+/// How many letters, digits, `_` and `-` stand at the start.
 #[tactic(auto, using(crate::proofs::Fronts::front_within))]
 pub fn name_bytes(bytes: &[u8]) -> usize
     ensures count { result ≡ prefix_len continues_name bytes.now }

@@ -79,7 +79,7 @@ pub fn token_at(tokens: &[Token], at: usize) -> Option<Token>
     }
 }
 
-/// The number of the token behind spaces and comments.
+/// The number of the token after spaces and comments.
 pub fn past_blanks(tokens: &[Token], at: usize) -> usize
     ensures gives { (text : List ℕ) → lexemes_from text tokens.now result ≡
         past_blanks (lexemes_from text tokens.now at) }

@@ -37,7 +37,7 @@ fn opens_comment(bytes: &[u8]) -> bool
     matches!(bytes, [b'/', b'*', ..])
 }
 
-/// The bytes of the comment that stands at the front.
+/// The bytes of the comment that stands at the start.
 #[tactic(auto, unfolding(crate::specs::Lexing::comment_len))]
 fn comment_len(bytes: &[u8]) -> Option<usize>
     ensures len { result ≡ comment_len bytes.now }
@@ -52,7 +52,7 @@ fn comment_len(bytes: &[u8]) -> Option<usize>
     }
 }
 
-/// The bytes of a hash, of which these stand behind the `#`.
+/// The bytes of a hash, of which these stand after the `#`.
 fn hash_len(bytes: &[u8]) -> Option<usize>
     ensures len { result ≡ hash_len bytes.now }
     ensures within { IfSome result (λ n. n ≤ length bytes.now + 1) }
@@ -63,7 +63,7 @@ fn hash_len(bytes: &[u8]) -> Option<usize>
     }
 }
 
-/// The bytes of a variable, of which these stand behind the `$`.
+/// The bytes of a variable, of which these stand after the `$`.
 fn variable_len(bytes: &[u8]) -> Option<usize>
     ensures len { result ≡ variable_len bytes.now }
     ensures within { IfSome result (λ n. n ≤ length bytes.now + 1) }

@@ -8,7 +8,7 @@ use tx_read::digit_count;
 /// The most digits of a number before its point.
 pub const MOST_WHOLE: usize = 9;
 
-/// The most digits of a number behind its point.
+/// The most digits of a number after its point.
 pub const MOST_DECIMALS: usize = 18;
 
 fn unit_len(bytes: &[u8]) -> usize
@@ -43,7 +43,7 @@ fn behind_point_len(bytes: &[u8]) -> Option<usize>
     }
 }
 
-/// What stands behind the whole digits: a point with digits or none, and a unit.
+/// What stands after the whole digits: a point with digits or none, and a unit.
 fn behind_whole_len(bytes: &[u8]) -> usize
     ensures len { result ≡ behind_whole_len bytes.now }
     ensures within { result ≤ length bytes.now }
@@ -81,7 +81,7 @@ fn unsigned_len(bytes: &[u8]) -> Option<usize>
     }
 }
 
-/// The bytes of the number that stands at the front, where there is one.
+/// The bytes of the number that stands at the start, where there is one.
 #[tactic(auto, unfolding(crate::specs::Lexing::number_len))]
 pub fn number_len(bytes: &[u8]) -> Option<usize>
     ensures len { result ≡ number_len bytes.now }
@@ -96,7 +96,7 @@ pub fn number_len(bytes: &[u8]) -> Option<usize>
     }
 }
 
-/// How many digits stand behind a point.
+/// How many digits stand after a point.
 fn decimals_of(bytes: &[u8]) -> usize
     ensures { result ≡ decimals_of bytes.now }
 {

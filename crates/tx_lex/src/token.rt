@@ -17,14 +17,14 @@ pub enum TokenKind {
     Hash,
     /// `$`, then a name.
     Variable,
-    /// An optional `-`, digits with an optional point and digits behind it, or a point and digits,
+    /// An optional `-`, digits with an optional point and digits after it, or a point and digits,
     /// then an optional unit, which is `%` or letters.
     Number,
     /// One of `:` `;` `,` `.` `>` `*` `{` `}` `(` `)` `!`, which it holds.
     Mark(u8),
 }
 
-/// A token and where it stands: the offsets in bytes of its first byte and of the one behind it.
+/// A token and where it stands: the offsets in bytes of its first byte and of the one after it.
 #[derive(Clone, Copy, Debug, PartialEq, Eq)]
 pub struct Token {
     pub kind: TokenKind,
@@ -39,12 +39,12 @@ pub enum LexKind {
     Unclosed,
     /// A byte begins no token, or isn't UTF-8. A cut character stands at its first byte.
     BadByte,
-    /// A number has more than 9 digits before its point or more than 18 behind it, where all
+    /// A number has more than 9 digits before its point or more than 18 after it, where all
     /// written digits count. It stands at the number's first byte.
     NumberTooLong,
 }
 
-/// What is wrong in a token, so many bytes behind its first.
+/// What is wrong in a token, so many bytes after its first.
 #[derive(Clone, Copy, Debug, PartialEq, Eq)]
 pub struct Wrong {
     pub kind: LexKind,
@@ -57,7 +57,7 @@ pub struct Fault {
     pub place: u32,
     pub kind: LexKind,
     /// The comment in which it lies. It begins before the fault, so a reader that allows no comment
-    /// there is at fault earlier. None where the fault is at the first byte behind the tokens.
+    /// there is at fault earlier. None where the fault is at the first byte after the tokens.
     pub comment: Option<Token>,
 }
 

@@ -79,7 +79,7 @@ impl<V: Drop> NodeMap<V> {
         Ok(())
     }
 
-    /// Gives a node a value, in the place of the one that it has. Where memory is wanting, the value
+    /// Gives a node a value, in the place of the one that it has. Where there is no memory, the value
     /// is handed back. A node that has a value or had one, or for which a place was taken, takes no
     /// memory.
     pub fn insert(&mut self, node: NodeId, value: V) -> Result<(), V>

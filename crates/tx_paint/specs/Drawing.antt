@@ -139,7 +139,7 @@ drawing_of dark values under kind text private focused placement =
 
 -- ---- what every drawing is
 
--- an edge that is set, behind which so many columns or rows lie before the content: the edge's own among them. The channels of its
+-- an edge that is set, after which so many columns or rows lie before the content: the edge's own among them. The channels of its
 -- colours are bytes.
 pub record IsSet (room : ℕ) (stroke : Stroke) : Type 0 where
   pub some : 1 ≤ room

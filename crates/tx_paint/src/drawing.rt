@@ -51,7 +51,7 @@ impl Drawing {
     /// theme or in the light one, over its parent's background.
     ///
     /// The text has fewer than 2^32 bytes. The row's background is its `background` over its parent's,
-    /// and it is written in its `color` over that. The one fault is want of memory.
+    /// and it is written in its `color` over that. The one fault is that there is no memory.
     #[tactic(auto, unfolding(crate::specs::Drawing::drawing_of))]
     pub fn of(
         alloc: Global,

@@ -20,7 +20,7 @@ abbrev pub told_in : List ℕ → List Token → Stop → Option (Wrong × List 
 told_in text tokens (At wrong at) = Some (wrong, lexemes_from text tokens at)
 told_in text tokens NoMemory = None
 
--- what a reader answers from a token on is what is read there, seen so, and the tokens behind it
+-- what a reader answers from a token on is what is read there, seen so, and the tokens after it
 abbrev pub GivesAs : {A B : Type 0} → (A → B) → List ℕ → List Token → Result (A × ℕ) Stop → Read B → Type 0
 GivesAs view text tokens result read = Gives (λ found. (view found.0, lexemes_from text tokens found.1)) (told_in text tokens) result read
 
@@ -28,7 +28,7 @@ GivesAs view text tokens result read = Gives (λ found. (view found.0, lexemes_f
 abbrev pub gathered_in : List ℕ → Vec Token Global → List Lexeme
 gathered_in text tokens = lexemes text tokens.items
 
--- the number behind the end of a body, where one ends there
+-- the number after the end of a body, where one ends there
 abbrev pub EndsBody : List ℕ → List Token → Bool → List Lexeme → Option ℕ → Type 0
 EndsBody text tokens inline ts (Some behind) = (ends_body inline ts ≡ true) × (lexemes_from text tokens behind ≡ past_end inline ts)
 EndsBody text tokens inline ts None = ends_body inline ts ≡ false

@@ -49,9 +49,9 @@ pub record IsDeclaration (defined : Defined) (ts : List Lexeme) (declarations : 
   pub valued : declaration name.bytes stand ≡ Ok pairs
   pub stands : declarations ≡ important_pairs important pairs
 
--- ---- declarations one behind another
+-- ---- declarations one after another
 
--- a count with so many more; it stands still at 4,294,967,295
+-- a count with so many more; it saturates at 4,294,967,295
 abbrev pub counted : ℕ → ℕ → ℕ
 counted count more = min (count + more) 4294967295
 
@@ -147,7 +147,7 @@ with_variable name stand found = record found { defined = with_definition name s
 abbrev pub with_rule : RuleValue → ℕ → Found → Found
 with_rule rule written found = record found { rules = found.rules ++ (rule ∷ []); written = counted found.written written }
 
--- a variable or a rule, with spaces and comments before it, and what the sheet has behind it
+-- a variable or a rule, with spaces and comments before it, and what the sheet has after it
 pub record IsPart (here : Found × List Lexeme) (piece : List Lexeme) (next : Found × List Lexeme) : Type 0 where
   pub before : List Lexeme
   pub part : List Lexeme
@@ -158,7 +158,7 @@ pub record IsPart (here : Found × List Lexeme) (piece : List Lexeme) (next : Fo
       ((name : List ℕ) × (stand : List Lexeme) × IsVariable here.0.defined part name stand × (next.0 ≡ with_variable name stand here.0))
       ⊎ ((rule : RuleValue) × (written : ℕ) × IsRule here.0.defined part rule written × (next.0 ≡ with_rule rule written here.0))
 
--- variables and rules one behind another, at most 10,000 rules
+-- variables and rules one after another, at most 10,000 rules
 pub record IsSheet (ts : List Lexeme) (found : Found) : Type 0 where
   pub pieces : List (List Lexeme)
   pub behind : List Lexeme

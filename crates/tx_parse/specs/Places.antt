@@ -13,7 +13,7 @@ begins_character byte = not (nat_le 128 byte && nat_le byte 191)
 abbrev pub line_feeds : List ℕ → ℕ
 line_feeds bytes = count_by is_line_feed bytes
 
--- how many characters stand behind the last line feed, with this byte, where so many stood before it
+-- how many characters stand after the last line feed, with this byte, where so many stood before it
 abbrev pub characters_with : ℕ → ℕ → ℕ
 characters_with count byte = if is_line_feed byte then 0 else if begins_character byte then count + 1 else count
 

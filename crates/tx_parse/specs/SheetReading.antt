@@ -84,11 +84,11 @@ first_value_at ts = Ok (place_of (past_blanks ts), past_blanks ts)
 abbrev pub is_important : Lexeme → Bool
 is_important t = is_name_token t.kind && bytes_eq t.bytes (codes "important")
 
--- the word behind `!`, and the spaces and comments behind it
+-- the word after `!`, and the spaces and comments after it
 abbrev pub important_word_at : List Lexeme → Read Bool
 important_word_at ts = in_turn (λ rest. token_at is_important (past_blanks rest)) (λ word rest. Ok (true, past_blanks rest)) ts
 
--- whether `!` and `important` come, with the spaces and comments behind them
+-- whether `!` and `important` come, with the spaces and comments after them
 unfoldable pub importance_at : List Lexeme → Read Bool
 importance_at [] = Ok (false, [])
 importance_at (t ∷ ts) = if is_mark 33 t.kind then important_word_at ts else Ok (false, t ∷ ts)
@@ -103,7 +103,7 @@ pub record Spelled : Type 0 where
 abbrev pub spelled : Lexeme → ℕ → List Lexeme → Bool → Spelled
 spelled name first stand important = record { name = name; first = first; stand = stand; important = important }
 
--- behind the name of a property
+-- after the name of a property
 unfoldable pub spelled_at : Defined → Lexeme → List Lexeme → Read Spelled
 spelled_at defined name ts =
     in_turn (mark_at 58) (λ colon. in_turn first_value_at (λ first. in_turn (values_at defined) (λ stand. in_turn importance_at (λ important. give (spelled name first stand important))))) ts
@@ -136,7 +136,7 @@ declaration_at inline defined (t ∷ ts) =
 abbrev pub with_declarations : List DeclarationValue → Body → Body
 with_declarations declarations body = record { declarations = body.declarations ++ declarations; written = counted body.written 1 }
 
--- a `;` or a declaration, behind what was found before
+-- a `;` or a declaration, after what was found before
 unfoldable pub item_at : Bool → Defined → Body → List Lexeme → Read Body
 item_at inline defined found [] = expected []
 item_at inline defined found (t ∷ ts) =
@@ -148,11 +148,11 @@ abbrev pub past_end : Bool → List Lexeme → List Lexeme
 past_end true ts = ts
 past_end false ts = drop 1 ts
 
--- behind spaces and comments: the end, or one item and more
+-- after spaces and comments: the end, or one item and more
 abbrev pub next_in_body : (Body → Reads Body) → Bool → Defined → Body → Reads Body
 next_in_body more inline defined found ts = if ends_body inline ts then Ok (found, past_end inline ts) else in_turn (item_at inline defined found) more ts
 
--- Declarations and `;` behind those found before, up to the end. There are at most so many.
+-- Declarations and `;` after those found before, up to the end. There are at most so many.
 unfoldable pub body_from : ℕ → Bool → Defined → Body → List Lexeme → Read Body
 body_from zero inline defined found ts = expected ts
 body_from (suc most) inline defined found ts = next_in_body (body_from most inline defined) inline defined found (past_blanks ts)
@@ -174,7 +174,7 @@ as_selector (Err fault) = met (kind_of fault.0) fault.1
 unfoldable pub spaced_selector_at : List Lexeme → Read SelectorValue
 spaced_selector_at ts = as_selector (selector_at (past_blanks ts))
 
--- behind a selector: whether further ones come, behind a comma, or none, behind a `{`
+-- after a selector: whether further ones come, after a comma, or none, after a `{`
 unfoldable pub goes_on_at : List Lexeme → Read Bool
 goes_on_at [] = expected []
 goes_on_at (t ∷ ts) =
@@ -186,7 +186,7 @@ abbrev pub then_selectors : (List SelectorValue → Reads (List SelectorValue)) 
 then_selectors more found true = more found
 then_selectors more found false = give found
 
--- Selectors behind those found before, at most so many, with a comma between two, and the `{` behind them.
+-- Selectors after those found before, at most so many, with a comma between two, and the `{` after them.
 unfoldable pub selectors_from : ℕ → List SelectorValue → List Lexeme → Read (List SelectorValue)
 selectors_from zero found ts = expected (past_blanks ts)
 selectors_from (suc most) found ts =
@@ -204,7 +204,7 @@ rule_at defined ts = in_turn selectors_at (λ selectors. in_turn (body_at false 
 
 -- ---- variables
 
--- behind the name of a variable
+-- after the name of a variable
 unfoldable pub definition_at : Defined → List Lexeme → Read (List Lexeme)
 definition_at defined ts = in_turn (mark_at 58) (λ colon. in_turn (values_at defined) (λ stand. in_turn (mark_at 59) (λ end. give stand))) ts
 
@@ -223,7 +223,7 @@ rule_in_sheet found ts =
     if nat_lt (length found.rules) 10000 then in_turn (rule_at found.defined) (λ rule. give (with_rule rule.0 rule.1 found)) ts
     else met TooManyRules ts
 
--- a variable or a rule, behind what was found before
+-- a variable or a rule, after what was found before
 unfoldable pub part_at : Found → List Lexeme → Read Found
 part_at found [] = expected []
 part_at found (t ∷ ts) =
@@ -231,12 +231,12 @@ part_at found (t ∷ ts) =
     else if begins_compound t.kind then rule_in_sheet found (t ∷ ts)
     else expected (t ∷ ts)
 
--- behind spaces and comments: the end, or one part and more
+-- after spaces and comments: the end, or one part and more
 abbrev pub next_in_sheet : (Found → Reads Found) → Found → Reads Found
 next_in_sheet more found [] = Ok (found, [])
 next_in_sheet more found (t ∷ ts) = in_turn (part_at found) more (t ∷ ts)
 
--- Variables and rules behind what was found before, up to the end. There are at most so many.
+-- Variables and rules after what was found before, up to the end. There are at most so many.
 unfoldable pub sheet_from : ℕ → Found → List Lexeme → Read Found
 sheet_from zero found ts = expected ts
 sheet_from (suc most) found ts = next_in_sheet (sheet_from most) found (past_blanks ts)

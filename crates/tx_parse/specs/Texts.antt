@@ -72,7 +72,7 @@ abbrev pub located : {A B : Type 0} → (A → B) → List ℕ → Result A Repo
 located view bytes (Ok found) = Ok (view found)
 located view bytes (Err report) = Err (fault_at bytes report)
 
--- what such a fault tells: want of memory tells nothing
+-- what such a fault tells: out of memory tells nothing
 abbrev pub told : SheetFault → Option SheetFault
 told (Text line column kind) = Some (Text line column kind)
 told NoMemory = None

@@ -1,4 +1,4 @@
-//! Declarations one behind another: blocks, and inline texts.
+//! Declarations one after another: blocks, and inline texts.
 ghost use Rattle.std.specs.Prelude.{◌≡◌, ◌≤◌, ◌<◌, ◌++◌, length, IfOk};
 ghost use Rattle.tx_lex.specs.Lexemes.{lexemes_from};
 ghost use Rattle.tx_value.specs.Holds.{AllHold};
@@ -21,7 +21,7 @@ pub struct Block {
     pub written: u32,
 }
 
-/// A count with so many more, which stands still at its type's end.
+/// A count with so many more, which saturates at its type's end.
 pub fn counted(count: u32, more: u32) -> u32
     ensures { result ≡ counted count more }
 {
@@ -38,7 +38,7 @@ fn nothing(alloc: Global) -> Block
     }
 }
 
-/// The declarations with these behind them.
+/// The declarations with these after them.
 fn pushed(found: Vec<Declaration>, written: Written) -> Result<Vec<Declaration>, AllocError>
     requires { AllHold written.pairs.items }
     ensures { IfOk result (λ all. all.items ≡ found.items ++ declarations_in written) }
@@ -53,7 +53,7 @@ fn pushed(found: Vec<Declaration>, written: Written) -> Result<Vec<Declaration>,
     Ok(all)
 }
 
-/// The block with these declarations behind its own.
+/// The block with these declarations after its own.
 fn with_declarations(found: Block, written: Written) -> Result<Block, AllocError>
     requires { AllHold written.pairs.items }
     ensures { IfOk result (λ block. body_of block ≡
@@ -66,7 +66,7 @@ fn with_declarations(found: Block, written: Written) -> Result<Block, AllocError
     })
 }
 
-/// A `;` or a declaration, behind what was found before.
+/// A `;` or a declaration, after what was found before.
 #[tactic(auto, unfolding(crate::specs::SheetReading::item_at))]
 fn item(
     alloc: Global,

@@ -34,14 +34,14 @@ pub struct Written {
     pub important: bool,
 }
 
-/// Whether this is the word behind the mark `!`.
+/// Whether this is the word after the mark `!`.
 fn is_important(text: &[u8], token: Token) -> bool
     ensures { result ≡ is_important (lexeme text.now token) }
 {
     token.kind.is_name() && token_bytes(text, token) == b"important".as_slice()
 }
 
-/// The word behind the mark `!`, and the spaces and comments behind it.
+/// The word after the mark `!`, and the spaces and comments after it.
 fn important_word(text: &[u8], tokens: &[Token], at: usize) -> Result<(bool, usize), Stop>
     ensures gives { GivesAs (λ a. a) text.now tokens.now result
         (important_word_at (lexemes_from text.now tokens.now at)) }
@@ -58,7 +58,7 @@ fn important_word(text: &[u8], tokens: &[Token], at: usize) -> Result<(bool, usi
     }
 }
 
-/// Whether `!` and `important` come, with the spaces and comments behind them.
+/// Whether `!` and `important` come, with the spaces and comments after them.
 #[tactic(auto, unfolding(crate::specs::SheetReading::importance_at))]
 fn importance(text: &[u8], tokens: &[Token], at: usize) -> Result<(bool, usize), Stop>
     ensures gives { GivesAs (λ a. a) text.now tokens.now result
@@ -75,7 +75,7 @@ fn importance(text: &[u8], tokens: &[Token], at: usize) -> Result<(bool, usize),
     }
 }
 
-/// What stands behind the name of a property, before the end of the declaration.
+/// What stands after the name of a property, before the end of the declaration.
 #[tactic(auto, unfolding(crate::specs::SheetReading::spelled_at))]
 fn before_end(
     alloc: Global,
@@ -103,7 +103,7 @@ fn before_end(
     Ok((spelling, important.1))
 }
 
-/// The number of the token behind the end of a body, where one ends there: a block at its `}`, which
+/// The number of the token after the end of a body, where one ends there: a block at its `}`, which
 /// is taken, and an inline text at its end.
 pub fn body_end(tokens: &[Token], at: usize, inline: bool) -> Option<usize>
     ensures ends { (text : List ℕ) → EndsBody text tokens.now inline (lexemes_from text tokens.now at) result }
@@ -131,7 +131,7 @@ fn is_end(tokens: &[Token], at: usize, inline: bool) -> bool
     }
 }
 
-/// What is told where the property doesn't have the values.
+/// What is reported where the property doesn't have the values.
 fn bad_value(first: u32, at: usize) -> Stop
     ensures { result ≡ At (record { kind = BadValue; place = Some first }) at }
 {

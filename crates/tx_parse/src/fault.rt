@@ -46,7 +46,7 @@ pub enum SheetKind {
 /// Why a sheet or an inline text is refused.
 #[derive(Clone, Copy, Debug, PartialEq, Eq, Error)]
 pub enum SheetFault {
-    /// The first fault. Line and column count from 1, the column in characters; each stands still
+    /// The first fault. Line and column count from 1, the column in characters; each saturates
     /// at 4,294,967,295.
     #[error("line {line}, column {column}: {kind}")]
     Text {
@@ -67,7 +67,7 @@ impl From<AllocError> for SheetFault {
     }
 }
 
-/// What is wrong, and the offset of the byte that is told, where this isn't the first of the token
+/// What is wrong, and the offset of the byte that is reported, where this isn't the first of the token
 /// at which it is met.
 #[derive(Clone, Copy, Debug)]
 pub struct Wrong {
@@ -92,7 +92,7 @@ impl From<AllocError> for Stop {
     }
 }
 
-/// A fault that is told of the token at which it is met.
+/// A fault that is reported of the token at which it is met.
 pub fn met(kind: SheetKind, at: usize) -> Stop
     ensures { result ≡ At (record { kind = kind; place = None }) at }
 {

@@ -29,7 +29,7 @@ fn line_feeds(bytes: &[u8]) -> usize
     bytes.iter().filter(|byte| **byte == b'\n').count()
 }
 
-/// How many characters stand behind the last line feed, with this byte, where so many stood before.
+/// How many characters stand after the last line feed, with this byte, where so many stood before.
 fn characters_with(count: usize, byte: u8) -> usize
     requires { count < 2 ^ 63 }
     ensures { result ≡ characters_with count byte }
@@ -43,7 +43,7 @@ fn characters_with(count: usize, byte: u8) -> usize
     }
 }
 
-/// How many characters stand behind the last line feed.
+/// How many characters stand after the last line feed.
 fn characters(bytes: &[u8]) -> usize
     ensures { result ≡ characters_from 0 bytes.now }
 {

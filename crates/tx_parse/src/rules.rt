@@ -45,7 +45,7 @@ fn spaced_selector(
     }
 }
 
-/// Whether further selectors come, behind a comma, or none, behind a `{`.
+/// Whether further selectors come, after a comma, or none, after a `{`.
 #[tactic(auto, unfolding(crate::specs::SheetReading::goes_on_at))]
 fn goes_on(text: &[u8], tokens: &[Token], at: usize) -> Result<(bool, usize), Stop>
     ensures { GivesAs (λ a. a) text.now tokens.now result

@@ -57,7 +57,7 @@ impl Declaration {
         &self.value
     }
 
-    /// Whether `!important` stands behind the values.
+    /// Whether `!important` stands after the values.
     pub fn important(&self) -> bool
         ensures { result ≡ self.now.important }
     {

@@ -1,4 +1,4 @@
-//! Variables and rules one behind another.
+//! Variables and rules one after another.
 ghost use Rattle.std.specs.Prelude.{◌≡◌, ◌<◌, ◌^◌, length, Some, IfOk};
 ghost use Rattle.tx_lex.specs.Lexemes.{lexemes_from, IsNth};
 ghost use Rattle.tx_parse.specs.Answers.{GivesAs, gathered_in};
@@ -45,7 +45,7 @@ fn nothing_found(alloc: Global, text: &[u8]) -> Gathered
     }
 }
 
-/// What stands behind the name of a variable that is defined.
+/// What stands after the name of a variable that is defined.
 #[tactic(auto, unfolding(crate::specs::SheetReading::definition_at))]
 fn definition(
     alloc: Global,
@@ -156,7 +156,7 @@ fn rule_in_sheet(
     Ok((all, read.1))
 }
 
-/// A variable or a rule, behind what was found before.
+/// A variable or a rule, after what was found before.
 #[tactic(auto, unfolding(crate::specs::SheetReading::part_at))]
 fn part(
     alloc: Global,

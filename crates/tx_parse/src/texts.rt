@@ -199,7 +199,7 @@ pub fn read_sheet(alloc: Global, bytes: &[u8]) -> Result<Sheet, SheetFault>
     // What is read is in the grammar.
     ensures found { IfOk result (λ sheet. (found : Found) × (sheet ≡
         sheet_value found) × IsSheetText bytes.now found) }
-    // What is in the grammar is read, unless memory is wanting.
+    // What is in the grammar is read, unless there is no memory.
     ensures only { (found : Found) → IsSheetText bytes.now found →
         Gives (λ sheet. sheet) told result (Ok (sheet_value found)) }
     // The answer is what the definition reads, with the line and the column of the first fault.

@@ -15,7 +15,7 @@ use tx_lex::{Token, past_blanks, token_at};
 // The most values of a declaration or of a variable.
 const MOST_VALUES: usize = 64;
 
-/// The values with what this token of values stands for, and the number of the token behind it.
+/// The values with what this token of values stands for, and the number of the token after it.
 fn with_value(
     text: &[u8],
     tokens: &[Token],

@@ -27,7 +27,7 @@ use Rattle.tx_pilot.specs.declared.verb.Verb.TheVariants.{Press, Click, Hover, P
 use Rattle.tx_pilot.specs.Lines.{is_quote_next}
 use Rattle.tx_pilot.specs.Verbs.{verb_of}
 
--- a value and the bytes behind it, or the kind of the fault that is met
+-- a value and the bytes after it, or the kind of the fault that is met
 abbrev pub Reads : Type 0 → Type 0
 Reads A = Reader (List ℕ) LineKind A
 
@@ -35,16 +35,16 @@ Reads A = Reader (List ℕ) LineKind A
 abbrev pub Takes : Type 0 → Type 0
 Takes A = List ℕ → Result A LineKind
 
--- ---- single words, each behind one blank
+-- ---- single words, each after one blank
 
--- the bytes behind the blank
+-- the bytes after the blank
 abbrev pub spaced : Takes (List ℕ)
 spaced bytes = or_refused Expected (behind (codes " ") bytes)
 
 abbrev pub some_word : Reads (List ℕ)
 some_word bytes = if is_empty (word bytes) then Err Expected else Ok (word bytes, past_word bytes)
 
--- a word of one byte or more, and what stands behind it
+-- a word of one byte or more, and what stands after it
 abbrev pub word_at : Reads (List ℕ)
 word_at bytes = spaced bytes >>= some_word
 
@@ -133,7 +133,7 @@ last_theme bytes =
     else if bytes_eq bytes (codes " light") then Ok false
     else Err Expected
 
--- ---- the words behind the first one
+-- ---- the words after the first one
 
 abbrev pub two_numbers : ℕ → ℕ → ℕ → ℕ → Takes (ℕ × ℕ)
 two_numbers least most low high bytes =

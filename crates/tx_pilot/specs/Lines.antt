@@ -18,7 +18,7 @@ use Rattle.tx_pilot.specs.Words.{IsNumber, IsString, IsTarget, IsMarked, IsInlin
 
 -- ---- the lines
 
--- one more word, and two more, each behind one blank
+-- one more word, and two more, each after one blank
 abbrev pub OneWord : {A : Type 0} → List ℕ → (List ℕ → A → Type 0) → List ℕ → A → Type 0
 OneWord verb Is line a = (word : List ℕ) × (line ≡ verb ++ (codes " " ++ word)) × Is word a
 
@@ -65,7 +65,7 @@ Spells line (Some input) = IsSound line × IsLine line input
 
 -- ---- the first word at fault
 
--- it stands behind one blank
+-- it stands after one blank
 abbrev pub Next : (List ℕ → Type 0) → List ℕ → Type 0
 Next Bad bytes = (rest : List ℕ) × (bytes ≡ codes " " ++ rest) × Bad rest
 
@@ -93,7 +93,7 @@ RowFault kind bytes = ⊥
 abbrev pub NoFault : LineKind → List ℕ → Type 0
 NoFault kind bytes = ⊥
 
--- behind a word that is good
+-- after a word that is good
 abbrev pub Behind : {A : Type 0} → (List ℕ → A → Type 0) → (List ℕ → Type 0) → List ℕ → Type 0
 Behind {A = A} Is Bad bytes = (word rest : List ℕ) × (a : A) × (bytes ≡ codes " " ++ (word ++ rest)) × Is word a × Bad rest
 
@@ -101,7 +101,7 @@ Behind {A = A} Is Bad bytes = (word rest : List ℕ) × (a : A) × (bytes ≡ co
 abbrev pub InTwo : {A : Type 0} → (List ℕ → A → Type 0) → (LineKind → List ℕ → Type 0) → (LineKind → List ℕ → Type 0) → LineKind → List ℕ → Type 0
 InTwo Is First Second kind bytes = First kind bytes ⊎ Behind Is (Second kind) bytes
 
--- whether a quote comes next, behind one blank
+-- whether a quote comes next, after one blank
 abbrev pub is_quote_next : List ℕ → Bool
 is_quote_next bytes = is_some (behind (codes " \"") bytes)
 

@@ -14,7 +14,7 @@ use Rattle.tx_pilot.specs.declared.fault.ScriptFault.TheVariants.{Line, NoMemory
 abbrev pub fed : List ℕ → List ℕ
 fed line = line ++ codes "\n"
 
--- the lines spell these inputs, one behind another
+-- the lines spell these inputs, one after another
 abbrev pub SpellAll : List (List ℕ) → List Input → Type 0
 SpellAll [] inputs = inputs ≡ []
 SpellAll (line ∷ lines) inputs =
@@ -25,7 +25,7 @@ abbrev pub count_with : List (List ℕ) → List ℕ → ℕ
 count_with lines [] = length lines
 count_with lines (byte ∷ bytes) = length lines + 1
 
--- Lines, each with its line feed, and behind them a last one without, which may be empty. There are at most 100,000, and
+-- Lines, each with its line feed, and after them a last one without, which may be empty. There are at most 100,000, and
 -- at most 64 MiB in all.
 pub record IsScript (bytes : List ℕ) (inputs : List Input) : Type 0 where
   pub lines : List (List ℕ)

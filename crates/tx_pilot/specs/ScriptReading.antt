@@ -13,7 +13,7 @@ use Rattle.tx_pilot.specs.declared.fault.ScriptFault.TheVariants.{Line, NoMemory
 abbrev pub Met : Type 0
 Met = ℕ × LineKind
 
--- A line behind so many. With it and its line feed there are so many bytes.
+-- A line after so many. With it and its line feed there are so many bytes.
 abbrev pub limited : ℕ → ℕ → List ℕ → Result (Option Input) LineKind
 limited before size line =
     if nat_le 100000 before then Err TooMany
@@ -25,12 +25,12 @@ abbrev pub put_before : List Input → Result (List Input) Met → Result (List 
 put_before inputs (Ok more) = Ok (inputs ++ more)
 put_before inputs (Err met) = Err met
 
--- the input of a line with this number, before what the lines behind it have
+-- the input of a line with this number, before what the lines after it have
 abbrev pub then_lines : ℕ → Result (Option Input) LineKind → Result (List Input) Met → Result (List Input) Met
 then_lines number (Ok read) more = put_before (option_to_list read) more
 then_lines number (Err kind) more = Err (number, kind)
 
--- the inputs of lines behind so many, which have so many bytes; the last one has no line feed
+-- the inputs of lines after so many, which have so many bytes; the last one has no line feed
 abbrev pub inputs_of : List (List ℕ) → ℕ → ℕ → Result (List Input) Met
 inputs_of [] before size = Ok []
 inputs_of (line ∷ []) before size =

@@ -69,7 +69,7 @@ pub record NoWord {A : Type 0} (Is : List ℕ → A → Type 0) (bytes : List �
   pub stands : IsWord bytes word rest
   pub none : (a : A) → Is word a → ⊥
 
--- a text in quotes stands here, with whatever behind it, and is no selector
+-- a text in quotes stands here, with whatever after it, and is no selector
 pub record NoSelector (bytes : List ℕ) : Type 0 where
   pub string : List ℕ
   pub text : List ℕ

@@ -7,7 +7,7 @@ Tells None meant = Unit {0}
 Tells (Some kind) meant = meant ≡ Err kind
 
 -- What a call returned, seen so, is what is meant, unless memory was wanting. `told` says what a fault tells, and is
--- None at want of memory alone.
+-- None for out of memory alone.
 abbrev pub Gives : {R E A K : Type 0} → (R → A) → (E → Option K) → Result R E → Result A K → Type 0
 Gives view told (Ok value) meant = meant ≡ Ok (view value)
 Gives view told (Err fault) meant = Tells (told fault) meant
@@ -17,7 +17,7 @@ abbrev pub GivesAtOnce : {R E A K : Type 0} → (R → A) → (E → K) → Resu
 GivesAtOnce view told (Ok value) meant = meant ≡ Ok (view value)
 GivesAtOnce view told (Err fault) meant = meant ≡ Err (told fault)
 
--- The same of a call whose fault is want of memory alone: the value, seen so, is what is meant.
+-- The same of a call whose only fault is out of memory: the value, seen so, is what is meant.
 abbrev pub GivesValue : {R E A : Type 0} → (R → A) → Result R E → A → Type 0
 GivesValue view (Ok value) meant = meant ≡ view value
 GivesValue view (Err fault) meant = Unit {0}

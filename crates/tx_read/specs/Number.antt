@@ -7,7 +7,7 @@ use Rattle.std.specs.List.{list_all}
 abbrev pub is_number : List ℕ → Bool
 is_number bytes = nat_lt 0 (length bytes) && list_all is_ascii_digit bytes
 
--- the number that the digits write behind those of another one
+-- the number that the digits write after those of another one
 abbrev pub value_behind : ℕ → List ℕ → ℕ
 value_behind before [] = before
 value_behind before (byte ∷ bytes) = value_behind (before * 10 + (byte - 48)) bytes

@@ -11,7 +11,7 @@ abbrev pub pieces : ℕ → List ℕ → List (List ℕ)
 pieces mark [] = [] ∷ []
 pieces mark (byte ∷ bytes) = if byte == mark then [] ∷ pieces mark bytes else onto byte (pieces mark bytes)
 
--- what stands behind a prefix, where the bytes have it
+-- what stands after a prefix, where the bytes have it
 abbrev pub behind : List ℕ → List ℕ → Option (List ℕ)
 behind [] bytes = Some bytes
 behind (first ∷ prefix) [] = None

@@ -1,23 +1,23 @@
--- Reading by parts: what a reader gives, one reader behind another, and items one behind another.
+-- Reading by parts: what a reader gives, one reader after another, and items one after another.
 use Rattle.std.specs.Prelude.{◌≡◌, ℕ, zero, suc, ◌<◌, Bool, true, false, List, [], ◌∷◌, ◌++◌, Result, Ok, Err, if◌then◌else◌}
 
--- A reader gives a value and the state behind it, or a fault. The state may be what is left of a list, or a place in it too.
+-- A reader gives a value and the state after it, or a fault. The state may be what is left of a list, or a place in it too.
 abbrev pub Reader : Type 0 → Type 0 → Type 0 → Type 0
 Reader S F A = S → Result (A × S) F
 
--- one step behind another
+-- one step after another
 infixl 10 ◌>>=◌
 abbrev pub ◌>>=◌ : {F A B : Type 0} → Result A F → (A → Result B F) → Result B F
 (Ok x) >>= f = f x
 (Err fault) >>= f = Err fault
 
--- one reader behind another, which is chosen by what the first one gave
+-- one reader after another, which is chosen by what the first one gave
 abbrev pub in_turn : {S F A B : Type 0} → Reader S F A → (A → Reader S F B) → Reader S F B
 in_turn first second s = first s >>= (λ found. second found.0 found.1)
 
--- ---- items one behind another
+-- ---- items one after another
 
--- The items that were read, and the state behind them, or the fault that was met there.
+-- The items that were read, and the state after them, or the fault that was met there.
 pub record Run (A S F : Type 0) : Type 0 where
   pub items : List A
   pub end : Result S F
@@ -30,7 +30,7 @@ ends_at end = record { items = []; end = end }
 abbrev pub behind_items : {A S F : Type 0} → List A → Run A S F → Run A S F
 behind_items front run = record { items = front ++ run.items; end = run.end }
 
--- an item and what is read behind it, or its fault
+-- an item and what is read after it, or its fault
 abbrev pub then_items : {A S F : Type 0} → Result (A × S) F → (S → Run A S F) → Run A S F
 then_items (Ok found) next = behind_items (found.0 ∷ []) (next found.1)
 then_items (Err fault) next = ends_at (Err fault)
@@ -44,7 +44,7 @@ many_within (suc most) begins item s = if begins s then then_items (item s) (man
 unfoldable pub many : {A S F : Type 0} → (S → ℕ) → (S → Bool) → Reader S F A → S → Run A S F
 many size begins item s = many_within (size s) begins item s
 
--- all items and the state behind them, or the first fault
+-- all items and the state after them, or the first fault
 abbrev pub with_items : {A S F : Type 0} → List A → Result S F → Result (List A × S) F
 with_items items (Ok s) = Ok (items, s)
 with_items items (Err fault) = Err fault
@@ -67,7 +67,7 @@ abbrev pub StopsAt : {A S F : Type 0} → (S → Bool) → Reader S F A → S �
 StopsAt begins item last (Ok s) = (s ≡ last) × (begins last ≡ false)
 StopsAt begins item last (Err fault) = (begins last ≡ true) × (item last ≡ Err fault)
 
--- what was read: items that the relation holds of, one behind another, up to where they end
+-- what was read: items that the relation holds of, one after another, up to where they end
 pub record IsFound {A S F : Type 0} (IsItem : S → A → S → Type 0) (begins : S → Bool) (item : Reader S F A) (s : S) (run : Run A S F) : Type 0 where
   pub last : S
   pub items : Items IsItem s run.items last
@@ -75,7 +75,7 @@ pub record IsFound {A S F : Type 0} (IsItem : S → A → S → Type 0) (begins 
 
 -- ---- what a reader doesn't look at
 
--- What a reader of a list gives depends on nothing behind the element at which it stops or meets a fault: it is the
+-- What a reader of a list gives depends on nothing after the element at which it stops or meets a fault: it is the
 -- same for every list that goes on otherwise from there.
 pub record IsLocal {T K A : Type 0} (reader : Reader (List T) (K × List T) A) : Type 0 where
   pub value : (front more other : List T) (t : T) (a : A) → reader (front ++ (t ∷ more)) ≡ Ok (a, t ∷ more) → reader (front ++ (t ∷ other)) ≡ Ok (a, t ∷ other)

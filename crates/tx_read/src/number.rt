@@ -7,7 +7,7 @@ ghost use Rattle.tx_read.specs.Number.{number_at_most, is_number, value};
 use itoa::Buffer;
 use std::alloc::AllocError;
 
-/// How many digits stand at the front.
+/// How many digits stand at the start.
 pub fn digit_count(bytes: &[u8]) -> usize
     ensures count { result ≡ prefix_len is_ascii_digit bytes.now }
     ensures within { result ≤ length bytes.now }

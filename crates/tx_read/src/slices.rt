@@ -13,7 +13,7 @@ pub fn front<T>(items: &[T], count: usize) -> &[T]
     }
 }
 
-/// What stands behind so many items; nothing where there are no more.
+/// What stands after so many items; nothing where there are no more.
 pub fn behind<T>(items: &[T], count: usize) -> &[T]
     ensures { result.now ≡ drop count items.now }
 {

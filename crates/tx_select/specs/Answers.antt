@@ -15,11 +15,11 @@ abbrev pub told_in : List ℕ → List Token → TokenFault → Option (SelectKi
 told_in text tokens (At kind at) = Some (kind, lexemes_from text tokens at)
 told_in text tokens NoMemory = None
 
--- what was read, and the tokens behind it
+-- what was read, and the tokens after it
 abbrev pub with_rest : {A : Type 0} → List ℕ → List Token → A × ℕ → A × List Lexeme
 with_rest text tokens found = (found.0, lexemes_from text tokens found.1)
 
--- the compounds of a selector that was read, and the tokens behind it
+-- the compounds of a selector that was read, and the tokens after it
 abbrev pub compounds_with_rest : List ℕ → List Token → SelectorValue × ℕ → List Compound × List Lexeme
 compounds_with_rest text tokens found = (found.0.compounds, lexemes_from text tokens found.1)
 

@@ -1,5 +1,5 @@
 -- How a match is looked for from a row upwards. A list of truth values goes with the compounds: which of them may be placed at
--- the row that is looked at, those behind it being placed below.
+-- the row that is looked at, those after it being placed below.
 use Rattle.std.specs.Prelude.{ℕ, ◌&&◌, ◌||◌, Bool, true, false, not, List, [], ◌∷◌}
 use Rattle.std.specs.List.{list_any}
 use Rattle.std.specs.Option.{option_map_or}
@@ -26,7 +26,7 @@ abbrev pub first_placed : Test → List Compound → List Bool → Bool
 first_placed test (compound ∷ compounds) (here ∷ opens) = here && test compound
 first_placed test _ _ = false
 
--- a compound may be placed further up too, where it is joined as an ancestor to the one behind it
+-- a compound may be placed further up too, where it is joined as an ancestor to the one after it
 abbrev pub stays_open : List Compound → Bool
 stays_open [] = false
 stays_open (next ∷ compounds) = not next.child

@@ -18,14 +18,14 @@ has_space ts = list_any (λ t. is_space t.kind) ts
 
 -- ---- a part: `#id`, `.class` or `:pseudo`
 
--- the name that stands behind the `#` is one of 1 to 64 bytes, with a letter or `_` first
+-- the name that stands after the `#` is one of 1 to 64 bytes, with a letter or `_` first
 abbrev pub IsPart : List Lexeme → Part → Type 0
 IsPart (t ∷ []) (Id name) = (t.kind ≡ Hash) × (drop 1 t.bytes ≡ name) × IsName name
 IsPart (m ∷ t ∷ []) (Class name) = (m.kind ≡ Mark 46) × (t.kind ≡ Name) × (t.bytes ≡ name) × IsName name
 IsPart (m ∷ t ∷ []) (Pseudo pseudo) = (m.kind ≡ Mark 58) × (t.kind ≡ Name) × (t.bytes ≡ pseudo_name pseudo)
 IsPart _ _ = ⊥
 
--- parts directly behind each other
+-- parts directly after each other
 abbrev pub AreParts : List Lexeme → List Part → Type 0
 AreParts ts [] = ts ≡ []
 AreParts ts (part ∷ parts) = (a b : List Lexeme) × (ts ≡ a ++ b) × IsPart a part × AreParts b parts

@@ -9,7 +9,7 @@ use Rattle.tx_select.specs.Texts.{NoneBeginsSo}
 use Rattle.tx_select.specs.declared.value.Compound.{Compound}
 use Rattle.tx_select.specs.declared.fault.SelectKind.{SelectKind}
 
--- a selector with spaces and comments behind it, and then something else
+-- a selector with spaces and comments after it, and then something else
 pub record StandsBefore (ts : List Lexeme) (compounds : List Compound) (rest : List Lexeme) : Type 0 where
   pub selector : List Lexeme
   pub behind : List Lexeme
@@ -17,14 +17,14 @@ pub record StandsBefore (ts : List Lexeme) (compounds : List Compound) (rest : L
   pub grammar : IsSelector selector compounds
   pub blank : AreBlank behind
 
--- What is read among other tokens is in the grammar. What is in the grammar is read, where something stands behind it with
+-- What is read among other tokens is in the grammar. What is in the grammar is read, where something stands after it with
 -- which no selector goes on.
 abbrev pub SelectorsAreRead : Type 0
 SelectorsAreRead = (ts : List Lexeme) (compounds : List Compound) (rest : List Lexeme)
     → (selector_at ts ≡ Ok (compounds, rest) → StandsBefore ts compounds rest)
     × (StandsBefore ts compounds rest → first_is goes_on rest ≡ false → selector_at ts ≡ Ok (compounds, rest))
 
--- What is read looks at nothing behind the token at which it stops, and what is left is an end of the tokens.
+-- What is read looks at nothing after the token at which it stops, and what is left is an end of the tokens.
 abbrev pub SelectorsAreLocal : Type 0
 SelectorsAreLocal = IsLocal selector_at × Leaves selector_at
 

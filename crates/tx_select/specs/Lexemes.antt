@@ -15,6 +15,6 @@ begins_compound kind = is_name_token kind || is_mark 42 kind || begins_part kind
 abbrev pub is_child_mark : TokenKind → Bool
 is_child_mark kind = is_mark 62 kind
 
--- what may stand behind a compound, or behind a part of it, so that the selector goes on
+-- what may stand after a compound, or after a part of it, so that the selector goes on
 abbrev pub goes_on : TokenKind → Bool
 goes_on kind = is_blank kind || is_child_mark kind || begins_compound kind

@@ -31,7 +31,7 @@ give a ts = Ok (a, ts)
 abbrev pub id_at : Lexeme → List Lexeme → Read Part
 id_at t ts = if is_name (drop 1 t.bytes) then Ok (Id (drop 1 t.bytes), ts) else expected (t ∷ ts)
 
--- behind a `.`
+-- after a `.`
 abbrev pub class_at : List Lexeme → Read Part
 class_at [] = expected []
 class_at (t ∷ ts) = if is_name_token t.kind && is_name t.bytes then Ok (Class t.bytes, ts) else expected (t ∷ ts)
@@ -40,7 +40,7 @@ abbrev pub known_pseudo : Lexeme → List Lexeme → Option PseudoName → Read 
 known_pseudo t ts (Some pseudo) = Ok (Pseudo pseudo, ts)
 known_pseudo t ts None = Err (UnknownPseudo, t ∷ ts)
 
--- behind a `:`
+-- after a `:`
 abbrev pub pseudo_at : List Lexeme → Read Part
 pseudo_at [] = expected []
 pseudo_at (t ∷ ts) = if is_name_token t.kind then known_pseudo t ts (pseudo_of t.bytes) else expected (t ∷ ts)
@@ -58,7 +58,7 @@ parts_at ts = whole (many length (first_is begins_part) part_at ts)
 
 -- ---- compounds
 
--- the name, or none: behind a `*`, or where a part begins
+-- the name, or none: after a `*`, or where a part begins
 unfoldable pub kind_at : List Lexeme → Read (Option (List ℕ))
 kind_at [] = expected []
 kind_at (t ∷ ts) =
@@ -75,7 +75,7 @@ compound_at child ts = in_turn kind_at (λ kind. in_turn parts_at (λ parts. giv
 
 -- ---- what stands between compounds
 
--- what is behind spaces and comments, and whether there was a space
+-- what is after spaces and comments, and whether there was a space
 abbrev pub spaces_behind : Bool → List Lexeme → Bool × List Lexeme
 spaces_behind spaced [] = (spaced, [])
 spaces_behind spaced (t ∷ ts) = if is_blank t.kind then spaces_behind (spaced || is_space t.kind) ts else (spaced, t ∷ ts)
@@ -83,7 +83,7 @@ spaces_behind spaced (t ∷ ts) = if is_blank t.kind then spaces_behind (spaced 
 unfoldable pub spaces_at : List Lexeme → Bool × List Lexeme
 spaces_at ts = spaces_behind false ts
 
--- whether a compound comes, and then whether as a child; behind spaces and comments
+-- whether a compound comes, and then whether as a child; after spaces and comments
 abbrev pub joint_at : Bool → List Lexeme → Option Bool × List Lexeme
 joint_at spaced [] = (None, [])
 joint_at spaced (t ∷ ts) =
@@ -96,12 +96,12 @@ link_at ts = joint_at (spaces_at ts).0 (spaces_at ts).1
 
 -- ---- selectors
 
--- the compound, with those that come behind it
+-- the compound, with those that come after it
 abbrev pub then_compounds : (Bool → Reads (List Compound)) → Compound → Option Bool → Reads (List Compound)
 then_compounds more compound None = give (compound ∷ [])
 then_compounds more compound (Some child) = in_turn (more child) (λ compounds. give (compound ∷ compounds))
 
--- At most so many compounds, the first of them joined so, and the spaces and comments behind them.
+-- At most so many compounds, the first of them joined so, and the spaces and comments after them.
 unfoldable pub compounds_at : ℕ → Bool → List Lexeme → Read (List Compound)
 compounds_at zero child ts = expected ts
 compounds_at (suc most) child ts =

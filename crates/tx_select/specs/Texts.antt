@@ -14,7 +14,7 @@ use Rattle.tx_select.specs.declared.fault.SelectFault.TheVariants.{Grammar, NoMe
 abbrev pub tokens_of : List ℕ → List Lexeme
 tokens_of text = lexemes text (lexed text).tokens
 
--- where the tokens end: at that fault, or behind the last byte
+-- where the tokens end: at that fault, or after the last byte
 abbrev pub end_of : List ℕ → Option Fault → ℕ
 end_of text None = length text
 end_of text (Some fault) = fault.place
@@ -34,7 +34,7 @@ NoneBeginsSo ts [] = (compounds : List Compound) → IsWhole ts compounds → �
 NoneBeginsSo ts (t ∷ more) =
     (front : List Lexeme) × (ts ≡ front ++ (t ∷ more)) × ((other : List Lexeme) (compounds : List Compound) → IsWhole (front ++ (t ∷ other)) compounds → ⊥)
 
--- the tokens are in the grammar, and what isn't a token is met behind them
+-- the tokens are in the grammar, and what isn't a token is met after them
 pub record StopsAtByte (text : List ℕ) (place : ℕ) : Type 0 where
   pub compounds : List Compound
   pub grammar : IsWhole (tokens_of text) compounds

@@ -45,7 +45,7 @@ fn is_placed(tree: &Tree, state: &Pseudo, row: &Row, compound: &Compound, may: b
     may && compound_holds(tree, state, row, compound)
 }
 
-/// Whether a compound may be placed further up, which is so where the one behind it was placed
+/// Whether a compound may be placed further up, which is so where the one after it was placed
 /// here, or where it may be placed here and stays so.
 fn is_open(below: bool, may: bool, behind: &[Compound]) -> bool
     ensures { result ≡ (below || (may && stays_open behind.now)) }

@@ -8,7 +8,7 @@ use std::alloc::AllocError;
 pub enum SelectKind {
     /// The token isn't one that may stand there.
     Expected,
-    /// The name behind a `:` isn't that of a pseudo-class.
+    /// The name after a `:` isn't that of a pseudo-class.
     UnknownPseudo,
 }
 

@@ -8,7 +8,7 @@ pub fn selectors_are_read()
 {}
 
 /// What is read of a selector that stands among other tokens, and a fault in it, depend on nothing
-/// behind the token at which the reading stops.
+/// after the token at which the reading stops.
 pub fn selectors_are_local()
     ensures { SelectorsAreLocal }
 {}

@@ -1,7 +1,7 @@
 //! Selectors from tokens, from the left.
 //!
 //! Each call reads from the token of a number on, and answers what it read with the number of the
-//! token behind it.
+//! token after it.
 ghost use Rattle.std.specs.Prelude.{◌≡◌, ◌<◌, ◌≤◌, ℕ, List, Bool, true, length, ◌&&◌, ◌||◌, drop, IfOk, Some, None, if◌then◌else◌};
 ghost use Rattle.std.specs.Option.{SomeIff};
 ghost use Rattle.tx_text.specs.Name.{IsName, is_name};
@@ -33,7 +33,7 @@ pub fn expected(at: usize) -> TokenFault
     }
 }
 
-/// The name behind the mark of a hash.
+/// The name after the mark of a hash.
 fn id_of(text: &[u8], hash: Token) -> Option<Name>
     ensures { SomeIff result (IsName (drop 1 (token_bytes text.now hash))) (drop 1 (token_bytes text.now hash)) }
 {
@@ -120,7 +120,7 @@ fn part_begins(tokens: &[Token], at: usize) -> bool
     }
 }
 
-/// Parts directly behind each other, as long as one begins.
+/// Parts directly after each other, as long as one begins.
 #[tactic(auto, unfolding(crate::specs::SelectorReading::parts_at))]
 fn parts(
     alloc: Global,
@@ -146,7 +146,7 @@ fn parts(
     Ok((Parts::of(parts), behind))
 }
 
-/// The name of the kind with which a compound begins; none behind `*` or where a part begins.
+/// The name of the kind with which a compound begins; none after `*` or where a part begins.
 #[tactic(auto, unfolding(crate::specs::SelectorReading::kind_at))]
 fn kind(text: &[u8], tokens: &[Token], at: usize) -> Result<(Option<Name>, usize), TokenFault>
     ensures gives { GivesAmong text.now tokens.now result (kind_at (lexemes_from text.now tokens.now at)) }
@@ -213,7 +213,7 @@ pub fn spaces(tokens: &[Token], at: usize) -> (bool, usize)
     (spaced, behind)
 }
 
-/// Whether a compound comes behind spaces and comments, and then whether as a child.
+/// Whether a compound comes after spaces and comments, and then whether as a child.
 fn joint(tokens: &[Token], at: usize, spaced: bool) -> (Option<bool>, usize)
     ensures gives { (text : List ℕ) → joint_at spaced (lexemes_from text tokens.now at) ≡ (result.0, lexemes_from text tokens.now result.1) }
     ensures behind { at ≤ result.1 }
@@ -231,7 +231,7 @@ fn joint(tokens: &[Token], at: usize, spaced: bool) -> (Option<bool>, usize)
     (None, at)
 }
 
-/// Whether a compound comes behind this one, and then whether as a child.
+/// Whether a compound comes after this one, and then whether as a child.
 #[tactic(auto, unfolding(crate::specs::SelectorReading::link_at))]
 fn link(tokens: &[Token], at: usize) -> (Option<bool>, usize)
     ensures gives { (text : List ℕ) → link_at (lexemes_from text tokens.now at) ≡ (result.0, lexemes_from text tokens.now result.1) }
@@ -241,7 +241,7 @@ fn link(tokens: &[Token], at: usize) -> (Option<bool>, usize)
     joint(tokens, blank.1, blank.0)
 }
 
-/// Compounds as long as they go on, and the spaces and comments behind them.
+/// Compounds as long as they go on, and the spaces and comments after them.
 #[tactic(auto, unfolding(crate::specs::SelectorReading::selector_at))]
 pub fn compounds(
     alloc: Global,

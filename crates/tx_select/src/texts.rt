@@ -13,9 +13,9 @@ use crate::value::{Compounds, Selector};
 use std::alloc::Global;
 use tx_lex::{Fault, Scanned, Token, scan, token_at};
 
-/// Reads the selector that begins at the token of this number, with the spaces and comments behind
-/// it, and answers it with the number of the token behind them. It reads as far as a selector can
-/// go on, so that what may stand behind it is for the caller to judge. The tokens are those of
+/// Reads the selector that begins at the token of this number, with the spaces and comments after
+/// it, and answers it with the number of the token after them. It reads as far as a selector can
+/// go on, so that what may stand after it is for the caller to judge. The tokens are those of
 /// `text`, fewer than 2^32. `At` is the first token that the grammar doesn't allow.
 pub fn selector_at(
     alloc: Global,
@@ -41,7 +41,7 @@ fn whole(alloc: Global, text: &[u8], tokens: &[Token]) -> Result<(Compounds, usi
     ended(tokens, found)
 }
 
-/// Nothing more stands behind these compounds.
+/// Nothing more stands after these compounds.
 fn ended(tokens: &[Token], found: (Compounds, usize)) -> Result<(Compounds, usize), TokenFault>
     ensures { (text : List ℕ) → GivesAmong text tokens.now result (ended found.0 (lexemes_from text tokens.now found.1)) }
 {
@@ -51,7 +51,7 @@ fn ended(tokens: &[Token], found: (Compounds, usize)) -> Result<(Compounds, usiz
     }
 }
 
-/// Where the tokens of a text end: at the byte that is at fault, or behind the last one.
+/// Where the tokens of a text end: at the byte that is at fault, or after the last one.
 fn end_of(text: &[u8], fault: Option<Fault>) -> u32
     requires { length text.now < 2 ^ 32 }
     ensures { result ≡ end_of text.now fault }
@@ -100,7 +100,7 @@ pub fn read_selector(alloc: Global, text: &str) -> Result<Selector, SelectFault>
     requires { length text.now < 2 ^ 32 }
     // What is read is in the grammar.
     ensures found { IfOk result (λ selector. IsSelectorText text.now selector) }
-    // What is in the grammar is read, unless memory is wanting.
+    // What is in the grammar is read, unless there is no memory.
     ensures only { (selector : SelectorValue) → IsSelectorText text.now selector → Gives (λ selector. selector) told result (Ok selector) }
     // A fault is the first one.
     ensures fault { IfErr result (λ fault. IsFirstFault text.now fault) }

@@ -24,7 +24,7 @@ pub enum PseudoName {
 impl PseudoName {
     ghost use Rattle.tx_select.specs.Pseudo.{pseudo_name};
 
-    /// The name, as it stands behind the `:`.
+    /// The name, as it stands after the `:`.
     pub fn name(self) -> &'static str
         ensures { result.now ≡ pseudo_name self }
     {

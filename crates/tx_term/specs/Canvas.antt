@@ -8,7 +8,7 @@ use Rattle.tx_cell.specs.Pen.{white_on_black}
 use Rattle.tx_cell.specs.Plain.{begins_plain}
 use Rattle.tx_cell.specs.declared.pen.Pen.{Pen}
 
--- the cells without the one that is held, the cursor counted from 0, which may stand one column behind the last, the
+-- the cells without the one that is held, the cursor counted from 0, which may stand one column after the last, the
 -- pen, and the text of the held cell, which is empty where none is held
 pub record CanvasValue : Type 0 where
   pub grid : GridValue
@@ -36,7 +36,7 @@ abbrev pub columns_of : Option CellValue → ℕ
 columns_of None = 0
 columns_of (Some cell) = cell.width
 
--- the held cell is put, and the cursor stands behind it
+-- the held cell is put, and the cursor stands after it
 unfoldable pub put_held : CanvasValue → CanvasValue
 put_held canvas = record canvas {
   grid = drawn canvas.grid canvas.column canvas.row (held_cell canvas);
@@ -72,7 +72,7 @@ erased canvas = record canvas { grid = filled canvas.grid.size (blank canvas.pen
 abbrev pub opened_canvas : Size → CanvasValue
 opened_canvas size = record { grid = filled size (blank white_on_black); row = 0; column = 0; pen = white_on_black; held = [] }
 
--- the cursor is in a row, and at most one column behind the last
+-- the cursor is in a row, and at most one column after the last
 pub record IsInside (canvas : CanvasValue) : Type 0 where
   pub row : canvas.row < canvas.grid.size.height
   pub column : canvas.column ≤ canvas.grid.size.width

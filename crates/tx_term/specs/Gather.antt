@@ -23,6 +23,6 @@ pub record Queues (before now : SinkSeen) (all : List ℕ) (g : Gathered) : Type
   pub within : g.taken ≤ length all
   pub lost : g.failed ≡ true → g.taken < length all
 
--- these bytes were sent behind whatever was sent before them
+-- these bytes were sent after whatever was sent before them
 pub record Adds (sink_old sink_new : SinkSeen) (old new : Gathered) (bytes : List ℕ) : Type 0 where
   pub behind : (before : SinkSeen) (all : List ℕ) → Queues before sink_old all old → Queues before sink_new (all ++ bytes) new

@@ -45,13 +45,13 @@ ended machine = record machine { canvas = put_held machine.canvas; unfinished = 
 abbrev pub longer_by : List ℕ → ℕ → List ℕ
 longer_by unfinished byte = if nat_lt (length unfinished) 64 then unfinished ++ byte ∷ [] else unfinished
 
--- where in the stream these unfinished bytes are: in the text, behind ESC, or behind ESC [
+-- where in the stream these unfinished bytes are: in the text, after ESC, or after ESC [
 abbrev pub stage_of : List ℕ → Stage
 stage_of [] = InText
 stage_of (first ∷ []) = if first == 27 then InEscape else InText
 stage_of (first ∷ second ∷ rest) = if (first == 27) && (second == 91) then InSequence else InText
 
--- behind ESC: a [ begins the numbers, and any other byte ends a sequence that does nothing
+-- after ESC: a [ begins the numbers, and any other byte ends a sequence that does nothing
 abbrev pub escape_byte : Machine → ℕ → Machine
 escape_byte machine byte = record machine { unfinished = if byte == 91 then 27 ∷ 91 ∷ [] else [] }
 
@@ -63,7 +63,7 @@ last_command machine byte = if nat_lt (length machine.unfinished) 64 then comman
 abbrev pub last_byte : Machine → ℕ → Machine
 last_byte machine byte = run (last_command machine byte) (ended machine)
 
--- behind ESC [: more of the sequence, its last byte, or one that drops it
+-- after ESC [: more of the sequence, its last byte, or one that drops it
 abbrev pub sequence_byte : Machine → ℕ → Machine
 sequence_byte machine byte =
     if is_in_range 0x20 0x3F byte then record machine { unfinished = longer_by machine.unfinished byte }

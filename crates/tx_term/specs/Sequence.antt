@@ -13,12 +13,12 @@ use Rattle.tx_term.specs.declared.machine.command.Command.TheVariants.{Nothing, 
 abbrev pub with_digit : Option ℕ → ℕ → ℕ
 with_digit before digit = min (unwrap_or before 0 * 10 + (digit - 48)) 4294967295
 
--- the numbers with the one behind them, which is not to be missing
+-- the numbers with the one after them, which is not to be missing
 abbrev pub with_number : List ℕ → Option ℕ → Option (List ℕ)
 with_number before None = None
 with_number before (Some number) = Some (before ++ number ∷ [])
 
--- the numbers that these bytes write behind those before them and behind the digits of one more. There are none where a
+-- the numbers that these bytes write after those before them and after the digits of one more. There are none where a
 -- number is missing, or where a byte is no digit and no semicolon.
 abbrev pub numbers_behind : List ℕ → Option ℕ → List ℕ → Option (List ℕ)
 numbers_behind before here [] = with_number before here
@@ -31,7 +31,7 @@ numbers_behind before here (byte ∷ bytes) =
 abbrev pub numbers_of : List ℕ → Option (List ℕ)
 numbers_of bytes = numbers_behind [] None bytes
 
--- the numbers behind a question mark
+-- the numbers after a question mark
 abbrev pub private_numbers_of : List ℕ → Option (List ℕ)
 private_numbers_of [] = None
 private_numbers_of (mark ∷ bytes) = if mark == 63 then numbers_of bytes else None
@@ -50,7 +50,7 @@ with_mark number pen =
     else if number == 9 then Some (record pen { style = record pen.style { strike = true } })
     else None
 
--- 38 sets the colour of the text, and 48 the one behind it
+-- 38 sets the colour of the text, and 48 the one after it
 abbrev pub is_colour : ℕ → Bool
 is_colour number = (number == 38) || (number == 48)
 

@@ -30,7 +30,7 @@ abbrev pub first_differ : List (CellValue × CellValue) → Bool
 first_differ [] = false
 first_differ (pair ∷ _) = not (cell_eq pair.0 pair.1)
 
--- a unit differs where its cell does in text, width, tail mark or pen, or the tail behind it
+-- a unit differs where its cell does in text, width, tail mark or pen, or the tail after it
 abbrev pub unit_differs : CellValue × CellValue → List (CellValue × CellValue) → Bool
 unit_differs pair pairs = not (cell_eq pair.0 pair.1) || (nat_lt 1 pair.1.width && first_differ pairs)
 
@@ -59,7 +59,7 @@ pub data Mark : Type 0 where
   Move : (row column : ℕ) → Mark
   Write : (cell : CellValue) → Mark
 
--- A run of a row. A move stands before its first unit, before each lone unit and behind one: everywhere but between two
+-- A run of a row. A move stands before its first unit, before each lone unit and after one: everywhere but between two
 -- plain units.
 abbrev pub run_marks : ℕ → Bool → List Unit → List Mark
 run_marks row behind_plain [] = []
@@ -129,7 +129,7 @@ closing = 24 ∷ csi ++ codes "0m" ++ csi ++ codes "?25h" ++ csi ++ codes "?1049
 abbrev pub beginning : Bool → List ℕ
 beginning whole = if whole then opening else []
 
--- what stands behind the marks
+-- what stands after the marks
 abbrev pub ending : List ℕ
 ending = []
 

@@ -26,7 +26,7 @@ const CAN: u8 = 0x18;
 /// A terminal of a stated kind, which shows what a real one is to show.
 ///
 /// It knows the sequences of ECMA-48 that an update is made of. Cells are those of
-/// [`Cell::of`](tx_cell::Cell::of), and a cell that doesn't fit behind the cursor is dropped, so no
+/// [`Cell::of`](tx_cell::Cell::of), and a cell that doesn't fit after the cursor is dropped, so no
 /// line wraps.
 #[derive(Drop)]
 pub struct Terminal {
@@ -122,7 +122,7 @@ impl Terminal {
         self.unfinished = one(ESC);
     }
 
-    /// A byte behind ESC.
+    /// A byte after ESC.
     fn escape_byte(&mut self, byte: u8)
         ensures { self.new ≡ escape_byte self.old byte }
     {
@@ -133,7 +133,7 @@ impl Terminal {
         };
     }
 
-    /// A byte behind `ESC [`.
+    /// A byte after `ESC [`.
     fn sequence_byte(&mut self, byte: u8)
         ensures { self.new ≡ sequence_byte self.old byte }
     {

@@ -18,7 +18,7 @@ fn lay_row(grid: &mut Grid, y: u32, strip: &Strip) -> Result<(), Fail> {
     Ok(())
 }
 
-/// A grid with the cells of each line of a text in one row, and blanks behind them. It fails where
+/// A grid with the cells of each line of a text in one row, and blanks after them. It fails where
 /// they don't fit.
 pub fn grid_of(alloc: Global, size: Size, text: &str, pen: Pen) -> Result<Grid, Fail> {
     let mut grid = Grid::open(alloc, size, Cell::blank(pen))?;
@@ -42,7 +42,7 @@ fn push_cells(out: &mut String, cells: &[Cell]) -> Result<(), AllocError> {
     Ok(())
 }
 
-/// The texts of a grid's cells, with a line feed behind each row.
+/// The texts of a grid's cells, with a line feed after each row.
 pub fn grid_text(alloc: Global, grid: &Grid) -> Result<String, AllocError> {
     let mut out = String::new(alloc);
     for y in 0..grid.size().height {

@@ -20,7 +20,7 @@ is_name (byte ∷ bytes) = begins_name byte && (nat_lt (length bytes) 64 && list
 abbrev pub IsName : List ℕ → Type 0
 IsName bytes = IsTrue (is_name bytes)
 
--- a name in an array of 64 bytes, with zeros behind it
+-- a name in an array of 64 bytes, with zeros after it
 pub record IsStored (bytes : List ℕ) (len : ℕ) : Type 0 where
   pub fits : len ≤ 64
   pub size : length bytes ≡ 64

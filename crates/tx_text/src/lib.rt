@@ -1,4 +1,4 @@
-//! Names, texts and lists as values, and want of memory.
+//! Names, texts and lists as values, and what is answered where there is no memory.
 #![tactic(auto)]
 
 mod items;

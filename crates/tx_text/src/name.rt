@@ -135,7 +135,7 @@ impl Hash for Name {
     }
 }
 
-// The bytes with zeros behind them.
+// The bytes with zeros after them.
 fn padded(front: &[u8]) -> [u8; MOST_BYTES]
     requires { length front.now ≤ 64 }
     ensures { result ≡ front.now ++ replicate (64 - length front.now) 0 }
@@ -164,14 +164,14 @@ pub fn begins_name(byte: u8) -> bool
     byte.is_ascii_alphabetic() || byte == b'_'
 }
 
-// Whether each byte may stand in a name behind the first.
+// Whether each byte may stand in a name after the first.
 fn all_continue(bytes: &[u8]) -> bool
     ensures { result ≡ list_all continues_name bytes.now }
 {
     bytes.iter().all(|byte| continues_name(*byte))
 }
 
-/// Whether the byte may stand in a name behind the first: a letter, a digit, `_` or `-`.
+/// Whether the byte may stand in a name after the first: a letter, a digit, `_` or `-`.
 pub fn continues_name(byte: u8) -> bool
     ensures { result ≡ continues_name byte }
 {

@@ -11,7 +11,7 @@ abbrev pub first_or_zero : List ℕ → ℕ
 first_or_zero [] = 0
 first_or_zero (k ∷ ks) = k
 
--- the number behind a number in a list, or 0
+-- the number after a number in a list, or 0
 abbrev pub behind_in : ℕ → List ℕ → ℕ
 behind_in n [] = 0
 behind_in n (k ∷ ks) = cond (k == n) (first_or_zero ks) (behind_in n ks)
@@ -20,7 +20,7 @@ behind_in n (k ∷ ks) = cond (k == n) (first_or_zero ks) (behind_in n ks)
 abbrev pub last_or_zero : List ℕ → ℕ
 last_or_zero ks = slice_index ks (length ks - 1)
 
--- a list up to the first place of a number, and behind it
+-- a list up to the first place of a number, and after it
 abbrev pub ahead_of : ℕ → List ℕ → List ℕ
 ahead_of n [] = []
 ahead_of n (k ∷ ks) = cond (k == n) [] (k ∷ ahead_of n ks)

@@ -38,7 +38,7 @@ abbrev pub first_subtree : List Row → List Row
 first_subtree [] = []
 first_subtree (row ∷ rows) = row ∷ deeper row.depth rows
 
--- the rows behind that
+-- the rows after that
 abbrev pub past_subtree : List Row → List Row
 past_subtree [] = []
 past_subtree (row ∷ rows) = past row.depth rows
@@ -47,7 +47,7 @@ past_subtree (row ∷ rows) = past row.depth rows
 abbrev pub subtree_of : ℕ → List Row → List Row
 subtree_of n rows = first_subtree (from_of n rows)
 
--- the rows behind that subtree
+-- the rows after that subtree
 abbrev pub after_of : ℕ → List Row → List Row
 after_of n rows = past_subtree (from_of n rows)
 
@@ -88,7 +88,7 @@ abbrev pub first_at : ℕ → List Row → Option Row
 first_at depth [] = None
 first_at depth (row ∷ rows) = cond (row.depth == depth) (Some row) None
 
--- the next sibling of the row with a number: the first row behind its subtree, where it is as deep
+-- the next sibling of the row with a number: the first row after its subtree, where it is as deep
 abbrev pub next_sibling_of : ℕ → List Row → Option Row
 next_sibling_of n rows = first_at (depth_of n rows) (after_of n rows)
 

@@ -5,7 +5,7 @@ use Rattle.tx_tree.specs.Rows.{row_at, count_of}
 use Rattle.tx_tree.specs.TreeValue.{TreeValue}
 use Rattle.tx_tree.specs.declared.row.Row.{Row}
 
--- a row may stand directly behind another
+-- a row may stand directly after another
 pub record MayFollow (last row : Row) : Type 0 where
   pub below_first : 1 ≤ row.depth
   pub shallow : row.depth ≤ 63
@@ -13,7 +13,7 @@ pub record MayFollow (last row : Row) : Type 0 where
   pub held : row.depth ≡ last.depth + 1 → holds_children last.kind ≡ true
   pub no_screen : is_screen row.kind ≡ false
 
--- the rows may stand behind a row, one after another
+-- the rows may stand after a row, one after another
 abbrev pub MayAllFollow : Row → List Row → Type 0
 MayAllFollow last [] = Unit {0}
 MayAllFollow last (row ∷ rows) = MayFollow last row × MayAllFollow row rows

@@ -92,7 +92,7 @@ pub record IsNothing (rows : List Row) (line : List ℕ) : Type 0 where
   pub no_row : (row : Row) → SpellsRow rows line row → ⊥
   pub no_bind : (bind : Bind) → SpellsBind rows line bind → ⊥
 
--- the line behind these rows breaks this rule and none that comes before it
+-- the line after these rows breaks this rule and none that comes before it
 abbrev pub Breaks : List Row → List ℕ → Bool → TreeKind → Type 0
 Breaks rows line ended BadByte = is_utf8 line ≡ false
 Breaks rows line ended BadIndent = (is_utf8 line ≡ true) × (may_indent (last_row rows) line ≡ false)
@@ -106,7 +106,7 @@ Breaks rows line ended DuplicateId =
 
 -- ---- the fault
 
--- the bytes behind a line: its line feed and all else, or nothing
+-- the bytes after a line: its line feed and all else, or nothing
 abbrev pub is_line_end : List ℕ → Bool
 is_line_end [] = true
 is_line_end (byte ∷ bytes) = byte == 10

@@ -3,16 +3,16 @@ use Rattle.std.specs.Prelude.{ℕ, ◌+◌, ◌*◌, ◌%◌, ◌==◌, ◌&&◌
 use Rattle.tx_read.specs.Pieces.{behind}
 use Rattle.tx_tree.specs.declared.row.Row.{Row}
 
--- how many blanks stand at the front
+-- how many blanks stand at the start
 abbrev pub blanks : List ℕ → ℕ
 blanks [] = 0
 blanks (byte ∷ bytes) = if byte == 32 then blanks bytes + 1 else 0
 
--- the line behind them
+-- the line after them
 abbrev pub past_blanks : List ℕ → List ℕ
 past_blanks line = drop (blanks line) line
 
--- whether a word ends at the front of what stands behind it
+-- whether a word ends at the start of what stands after it
 abbrev pub ends_word : Option (List ℕ) → Bool
 ends_word None = false
 ends_word (Some []) = true
@@ -26,13 +26,13 @@ starts_bind text = ends_word (behind (codes "bind") text)
 abbrev pub is_bind_line : List ℕ → Bool
 is_bind_line line = starts_bind (past_blanks line)
 
--- whether so many blanks may stand before a line behind a last row of this depth: a binding stands one step below it,
+-- whether so many blanks may stand before a line after a last row of this depth: a binding stands one step below it,
 -- and a row at any depth from 1 to that
 abbrev pub may_stand : ℕ → Bool → ℕ → Bool
 may_stand depth true count = count == 2 * (depth + 1)
 may_stand depth false count = count % 2 == 0 && (nat_le 2 count && nat_le count (2 * (depth + 1)))
 
--- whether a line may have its indent behind this last row; the first line has none, but a binding there has no row and so
+-- whether a line may have its indent after this last row; the first line has none, but a binding there has no row and so
 -- no indent that would be its own
 abbrev pub may_indent : Option Row → List ℕ → Bool
 may_indent None line = if is_bind_line line then true else blanks line == 0

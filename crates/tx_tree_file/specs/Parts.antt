@@ -1,4 +1,4 @@
--- Reading the parts of a line. Each reader gives a value and the bytes behind it, or nothing where the bytes are none
+-- Reading the parts of a line. Each reader gives a value and the bytes after it, or nothing where the bytes are none
 -- that may stand there.
 use Rattle.std.specs.Prelude.{ℕ, zero, suc, ◌-◌, ◌==◌, ◌&&◌, Bool, true, false, not, nat_le, if◌then◌else◌, List, [], ◌∷◌, length, take, drop, Option, Some, None, option_map, option_and_then, find, codes, decimal, chars, bytes_eq}
 use Rattle.std.specs.Str.{is_utf8}
@@ -101,7 +101,7 @@ private_by (Chosen line) bytes = Some (Plain, bytes)
 abbrev pub private_of : Kind → List ℕ → Option (Private × List ℕ)
 private_of kind bytes = private_by (fresh kind 0) bytes
 
--- what a byte behind a backslash stands for
+-- what a byte after a backslash stands for
 abbrev pub unescaped : ℕ → Option ℕ
 unescaped byte = if byte == 34 then Some 34 else if byte == 92 then Some 92 else if byte == 110 then Some 10 else None
 
@@ -114,7 +114,7 @@ abbrev pub put_front : Option ℕ → Option (List ℕ × List ℕ) → Option (
 put_front None found = None
 put_front (Some byte) found = option_map (λ f. (byte ∷ f.0, f.1)) found
 
--- The text up to the closing quote, and the bytes behind that. The truth value says that a backslash stands before.
+-- The text up to the closing quote, and the bytes after that. The truth value says that a backslash stands before.
 abbrev pub quoted : Bool → List ℕ → Option (List ℕ × List ℕ)
 quoted escape [] = None
 quoted true (byte ∷ bytes) = put_front (unescaped byte) (quoted false bytes)

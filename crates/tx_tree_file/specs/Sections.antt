@@ -18,7 +18,7 @@ use Rattle.tx_tree_file.specs.TreeReading.{LineFault, with_new, or_fault, rows_b
 abbrev pub with_binds : List Bind → Row → Row
 with_binds binds row = record row { binds = row.binds ++ binds }
 
--- what the lines give behind these rows, once the next row line is met, or the end
+-- what the lines give after these rows, once the next row line is met, or the end
 abbrev pub rows_from : List Row → Option Met → Result (List Row) LineFault
 rows_from rows None = Ok rows
 rows_from rows (Some met) = or_fault met.line (with_new rows met.depth met.row) (rows_behind (pieces 10 met.rest.now) met.line)
@@ -41,7 +41,7 @@ Leads depth rest done (Err (Grammar line kind)) = IsAtFault depth rest done (rec
 Leads depth rest done (Err NoMemory) = Unit {0}
 Leads depth rest done (Err fault) = ⊥
 
--- a row may stand so deep behind a last row of another depth, and its bindings are still to come
+-- a row may stand so deep after a last row of another depth, and its bindings are still to come
 pub record IsWidget (last depth : ℕ) (new : NewRow) : Type 0 where
   pub below : 1 ≤ depth
   pub shallow : depth ≤ 63
@@ -49,13 +49,13 @@ pub record IsWidget (last depth : ℕ) (new : NewRow) : Type 0 where
   pub alone : new.binds ≡ []
   pub other : is_screen new.kind ≡ false
 
--- a row that was met behind a last row of this depth and behind so many lines
+-- a row that was met after a last row of this depth and after so many lines
 pub record IsMet (last done most : ℕ) (met : Met) : Type 0 where
   pub widget : IsWidget last met.depth met.row
   pub later : done < met.line
   pub lines : met.line + length met.rest.now ≤ most
 
--- the node of this number, at this depth, and behind it only what stands below it
+-- the node of this number, at this depth, and after it only what stands below it
 pub record IsOpen (rows : List Row) (depth n : ℕ) : Type 0 where
   pub front : List Row
   pub row : Row

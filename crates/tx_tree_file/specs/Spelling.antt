@@ -16,7 +16,7 @@ use Rattle.tx_tree.specs.declared.row.Row.{Row}
 abbrev pub indent : ℕ → List ℕ
 indent depth = replicate (2 * depth) 32
 
--- ---- the parts of a row, each behind one blank
+-- ---- the parts of a row, each after one blank
 
 -- `#` and the id
 abbrev pub id_part : Option (List ℕ) → List ℕ

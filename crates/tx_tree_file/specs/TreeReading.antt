@@ -22,7 +22,7 @@ use Rattle.tx_tree_file.specs.TreeFile.{kept}
 
 -- ---- one line
 
--- one reader behind another
+-- one reader after another
 infixl 10 ◌>>=◌
 abbrev pub ◌>>=◌ : {A B : Type 0} → Option A → (A → Option B) → Option B
 (Some x) >>= f = f x
@@ -48,7 +48,7 @@ row_of bytes =
       private = kept kind (length text.0) private.0;
     })))))))
 
--- a binding behind `bind `
+-- a binding after `bind `
 abbrev pub bind_by : Bool × List ℕ → Option Bind
 bind_by priority =
     key_of (word priority.1) >>= (λ key.
@@ -59,7 +59,7 @@ bind_by priority =
 abbrev pub bind_of : List ℕ → Option Bind
 bind_of bytes = behind (codes "bind ") bytes >>= (λ rest. bind_by (flag (codes "priority ") rest))
 
--- ---- the lines, one behind another
+-- ---- the lines, one after another
 
 -- the rows so far, of which the last one may get further bindings
 pub record Begun : Type 0 where
@@ -89,7 +89,7 @@ with_first (Err kind) = Err kind
 abbrev pub first_line : List ℕ → Bool → Result Begun TreeKind
 first_line line ended = with_first (first_item line ended)
 
--- what a line behind a last row of this depth is
+-- what a line after a last row of this depth is
 abbrev pub binding : Option Bind → Result Item TreeKind
 binding None = Err Expected
 binding (Some bind) = Ok (Binding bind)
@@ -118,7 +118,7 @@ item_of depth line ended =
 abbrev pub with_bind : Bind → Row → Row
 with_bind bind row = record row { binds = row.binds ++ bind ∷ [] }
 
--- a row more, behind these rows
+-- a row more, after these rows
 abbrev pub with_new : List Row → ℕ → NewRow → Result Begun TreeKind
 with_new rows depth new =
     if not (is_held depth rows) then Err Leaf
@@ -139,7 +139,7 @@ pub record LineFault : Type 0 where
   pub line : ℕ
   pub kind : TreeKind
 
--- what was read of a line, and then the lines behind it, or its fault
+-- what was read of a line, and then the lines after it, or its fault
 abbrev pub or_fault : ℕ → Result Begun TreeKind → (Begun → Result (List Row) LineFault) → Result (List Row) LineFault
 or_fault number (Ok begun) more = more begun
 or_fault number (Err kind) more = Err (record { line = number; kind = kind })
@@ -148,7 +148,7 @@ abbrev pub is_empty : {A : Type 0} → List A → Bool
 is_empty [] = true
 is_empty (x ∷ xs) = false
 
--- the rows of the lines behind so many; the last one is what stands behind the last line feed
+-- the rows of the lines after so many; the last one is what stands after the last line feed
 abbrev pub rows_behind : List (List ℕ) → ℕ → Begun → Result (List Row) LineFault
 rows_behind [] done begun = Ok (rows_so_far begun)
 rows_behind (line ∷ lines) done begun =
@@ -163,7 +163,7 @@ rows_of_lines (line ∷ lines) = or_fault 1 (first_line line (not (is_empty line
 abbrev pub tree_of : List ℕ → Result (List Row) LineFault
 tree_of bytes = rows_of_lines (pieces 10 bytes)
 
--- ---- answers of a call, want of memory aside
+-- ---- answers of a call, out of memory aside
 
 -- the fault of a line whose row can't be mounted
 abbrev pub refused : TreeFault → ℕ → TreeFault

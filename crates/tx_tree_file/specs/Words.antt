@@ -51,7 +51,7 @@ pub record IsNewRow (bytes : List ℕ) (new : NewRow) : Type 0 where
 
 -- ---- laws
 
--- A key is read exactly of its name. So are a text in quotes, with whatever stands behind it, and a row of a line.
+-- A key is read exactly of its name. So are a text in quotes, with whatever stands after it, and a row of a line.
 abbrev pub WordsAreRead : Type 0
 WordsAreRead =
     ((name : List ℕ) (key : Key) → (key_of name ≡ Some key → IsKeyName name key) × (IsKeyName name key → key_of name ≡ Some key))

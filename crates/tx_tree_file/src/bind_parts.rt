@@ -154,7 +154,7 @@ fn action_of(name: &[u8]) -> Option<Action>
     }
 }
 
-// A binding behind its first word.
+// A binding after its first word.
 fn bind_behind(bytes: &[u8], priority: bool) -> Option<Bind>
     ensures { result ≡ bind_by (priority, bytes.now) }
 {

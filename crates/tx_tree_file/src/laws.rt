@@ -19,7 +19,7 @@ pub fn read_again()
     ensures { ReadAgain }
 {}
 
-/// What is told of a file is its first fault, and it has only one.
+/// What is reported of a file is its first fault, and it has only one.
 pub fn one_fault()
     ensures { OneFault }
 {}

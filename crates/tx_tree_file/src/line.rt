@@ -15,7 +15,7 @@ use tx_tree::{Bind, Binds, Kind, Names, NewRow, Private, Text, TreeFault, TreeKi
 // The blanks before a row that is one step deeper than rows may be.
 const TOO_MANY_BLANKS: usize = 128;
 
-/// A line behind a row.
+/// A line after a row.
 #[derive(Debug, Drop)]
 pub enum Item {
     /// A binding of that row.
@@ -46,7 +46,7 @@ fn kept(kind: &Kind, text: &Text, state: &Private) -> Private
     }
 }
 
-/// The row that a line spells behind its indent, without its bindings. None where it spells none.
+/// The row that a line spells after its indent, without its bindings. None where it spells none.
 /// The row has the private state of its kind, but for `on` and the total of a bar.
 pub fn row_of(alloc: Global, bytes: &[u8]) -> Result<Option<NewRow>, AllocError>
     requires { length bytes.now < 2 ^ 32 }
@@ -85,7 +85,7 @@ pub fn row_of(alloc: Global, bytes: &[u8]) -> Result<Option<NewRow>, AllocError>
     }))
 }
 
-// How many blanks stand at the front.
+// How many blanks stand at the start.
 fn blanks(line: &[u8]) -> usize
     ensures value { result ≡ blanks line.now }
     ensures within { result ≤ length line.now }
@@ -109,7 +109,7 @@ fn starts_bind(text: &[u8]) -> bool
     }
 }
 
-// Whether so many blanks may stand before a line behind a row of this depth.
+// Whether so many blanks may stand before a line after a row of this depth.
 fn may_stand(depth: u32, bind: bool, count: usize) -> bool
     requires { depth ≤ 63 }
     ensures { result ≡ may_stand depth bind count }
@@ -160,8 +160,8 @@ fn row_item(
     Ok(Item::Widget((count / 2) as u32, row))
 }
 
-/// What a line behind a row of this depth is: a binding, or another row. `ended` says that a line
-/// feed stands behind it.
+/// What a line after a row of this depth is: a binding, or another row. `ended` says that a line
+/// feed stands after it.
 pub fn item_of(
     alloc: Global,
     depth: u32,

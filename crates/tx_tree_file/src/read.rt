@@ -76,7 +76,7 @@ fn add_row<'a>(
     Ok(section.met)
 }
 
-// Adds all rows behind the Screen.
+// Adds all rows after the Screen.
 fn add_rows(alloc: Global, tree: &mut Tree, first: Option<Met<'_>>) -> Result<(), TreeFault>
     requires screen { IsGrown tree.old (1 ∷ []) }
     requires met { IfSome first (IsMet 0 0 (2 ^ 32 - 1)) }

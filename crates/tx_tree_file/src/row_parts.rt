@@ -1,4 +1,4 @@
-//! The parts of a row line, each with the bytes behind it.
+//! The parts of a row line, each with the bytes after it.
 ghost use Rattle.std.specs.Prelude.{◌≡◌, option_map, option_copied, not, bytes_eq, decimal, codes, false, IfOk};
 ghost use Rattle.tx_tree.specs.Spelled.{no_repeats};
 ghost use Rattle.tx_read.specs.Pieces.{behind};
@@ -138,7 +138,7 @@ fn is_plain(byte: u8) -> bool
     32 <= byte || byte == b'\t'
 }
 
-// What a byte behind a backslash stands for.
+// What a byte after a backslash stands for.
 fn escaped(byte: u8) -> Option<u8>
     ensures { result ≡ unescaped byte }
 {
@@ -150,7 +150,7 @@ fn escaped(byte: u8) -> Option<u8>
     }
 }
 
-/// The text up to the closing quote, and the bytes behind that; the opening one stands before.
+/// The text up to the closing quote, and the bytes after that; the opening one stands before.
 /// `\"`, `\\` and `\n` stand for a quote, a backslash and a line feed; no other byte below 0x20
 /// but the tab may stand there. None where the bytes go on otherwise or have no closing quote.
 pub fn quoted(alloc: Global, bytes: &[u8]) -> Result<Option<(Vec<u8>, &[u8])>, AllocError>

@@ -14,7 +14,7 @@ pub struct Met<'a> {
     pub row: NewRow,
     /// The number of the line.
     pub line: u32,
-    /// The bytes behind it.
+    /// The bytes after it.
     pub rest: &'a [u8],
 }
 
@@ -33,7 +33,7 @@ pub fn add<T: Drop>(items: &mut Vec<T>, item: T) -> Result<(), AllocError>
     Ok(())
 }
 
-/// Reads the lines behind a row of this depth up to the next row, where so many lines are done.
+/// Reads the lines after a row of this depth up to the next row, where so many lines are done.
 pub fn read_section(
     alloc: Global,
     depth: u32,

@@ -4,7 +4,7 @@ use Rattle.tx_read.specs.Answer.{Gives, or_refused}
 use Rattle.tx_value.specs.declared.fault.ValueFault.{ValueFault}
 use Rattle.tx_value.specs.declared.fault.ValueFault.TheVariants.{UnknownProperty, BadValue, NoMemory}
 
--- what a fault tells: want of memory tells nothing
+-- what a fault tells: out of memory tells nothing
 abbrev pub told : ValueFault → Option ValueFault
 told UnknownProperty = Some UnknownProperty
 told BadValue = Some BadValue

@@ -43,7 +43,7 @@ channels (first ∷ r ∷ second ∷ g ∷ third ∷ b ∷ last ∷ []) =
     else None
 channels _ = None
 
--- behind a colour: a percentage, or nothing, which is 100
+-- after a colour: a percentage, or nothing, which is 100
 abbrev pub alpha_of : List Lexeme → Option ℕ
 alpha_of [] = Some 100
 alpha_of (t ∷ []) = percent_of t
@@ -60,12 +60,12 @@ ink_of hue alpha = option_map (λ ink. inked ink.0 ink.1) (option_zip hue alpha)
 abbrev pub clear : Ink
 clear = Fixed (record { rgb = black; alpha = 0 })
 
--- the same, where no percentage stands behind it
+-- the same, where no percentage stands after it
 abbrev pub transparent : List Lexeme → Option Ink
 transparent [] = Some clear
 transparent (t ∷ ts) = None
 
--- what stands behind `rgb`
+-- what stands after `rgb`
 abbrev pub rgb_colour : List Lexeme → Option Ink
 rgb_colour ts = ink_of (option_map (λ rgb. Plain rgb) (channels (take 7 ts))) (alpha_of (drop 7 ts))
 

@@ -20,7 +20,7 @@ hex_channel high low = option_map (λ digits. digits.0 * 16 + digits.1) (option_
 abbrev pub rgb_of : Option ℕ → Option ℕ → Option ℕ → Option Rgb
 rgb_of r g b = option_map (λ rgb. record { r = rgb.0; g = rgb.1.0; b = rgb.1.1 }) (option_zip r (option_zip g b))
 
--- what stands behind a `#`: three digits, each of which counts twice, or six
+-- what stands after a `#`: three digits, each of which counts twice, or six
 abbrev pub hex_colour : List ℕ → Option Rgb
 hex_colour (r ∷ g ∷ b ∷ []) = rgb_of (hex_channel r r) (hex_channel g g) (hex_channel b b)
 hex_colour (r ∷ r' ∷ g ∷ g' ∷ b ∷ b' ∷ []) = rgb_of (hex_channel r r') (hex_channel g g') (hex_channel b b')

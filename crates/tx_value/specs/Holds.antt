@@ -25,7 +25,7 @@ abbrev pub is_word : List Word → Value → Bool
 is_word choices (value.Word w) = among choices w
 is_word choices _ = false
 
--- a number that is written with at most 9 digits before its point and 18 behind it: not below 0, below 10^9, and a whole
+-- a number that is written with at most 9 digits before its point and 18 after it: not below 0, below 10^9, and a whole
 -- number of parts of which 10^18 are one
 unfoldable pub is_short : Ratio → Bool
 is_short x = not (int_lt x.num (pos 0)) && (nat_lt (unsigned_abs x.num) (10 ^ most_whole * x.den) && 10 ^ most_decimals % x.den == 0)

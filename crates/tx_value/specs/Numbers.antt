@@ -19,14 +19,14 @@ is_within least most n = nat_le least n && nat_le n most
 
 -- ---- a number without a sign
 
--- the digits at the front, and what is behind them
+-- the digits at the start, and what is after them
 abbrev pub digits : List ℕ → List ℕ
 digits bytes = take (prefix_len is_ascii_digit bytes) bytes
 
 abbrev pub behind_digits : List ℕ → List ℕ
 behind_digits bytes = drop (prefix_len is_ascii_digit bytes) bytes
 
--- the digits before the point, those behind it, and the unit
+-- the digits before the point, those after it, and the unit
 pub record Numeral : Type 0 where
   pub whole : List ℕ
   pub decimals : List ℕ

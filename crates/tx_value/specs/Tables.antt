@@ -134,7 +134,7 @@ places_down = word.Top ∷ word.Middle ∷ word.Bottom ∷ []
 
 -- ---- units, borders and marks
 
--- what stands behind the number of a size
+-- what stands after the number of a size
 abbrev pub units : List (List ℕ × Unit)
 units = (codes "", Cells) ∷ (codes "%", Percent) ∷ (codes "w", W) ∷ (codes "h", H) ∷ (codes "vw", Vw) ∷ (codes "vh", Vh) ∷ (codes "fr", Fr) ∷ []
 

@@ -46,7 +46,7 @@ fn rgb_of(r: Option<u8>, g: Option<u8>, b: Option<u8>) -> Option<Rgb>
     })
 }
 
-/// The colour that stands behind a `#`: three digits, each of which counts twice, or six.
+/// The colour that stands after a `#`: three digits, each of which counts twice, or six.
 fn hex_colour(digits: &[u8]) -> Option<Rgb>
     ensures { result ≡ hex_colour digits.now }
 {
@@ -144,7 +144,7 @@ fn inked(hue: Hue, alpha: u8) -> Ink
     }
 }
 
-/// A colour with what stands behind it.
+/// A colour with what stands after it.
 fn ink_of(hue: Hue, text: &[u8], rest: &[Token]) -> Option<Ink>
     ensures { result ≡ ink_of (Some hue) (alpha_of (lexemes text.now rest.now)) }
 {
@@ -161,7 +161,7 @@ pub fn clear() -> Ink
     })
 }
 
-/// What stands behind `rgb`.
+/// What stands after `rgb`.
 fn rgb_colour(text: &[u8], rest: &[Token]) -> Option<Ink>
     ensures { result ≡ rgb_colour (lexemes text.now rest.now) }
 {

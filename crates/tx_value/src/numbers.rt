@@ -12,7 +12,7 @@ use tx_frac::{Frac, Scalar, Unit};
 use tx_lex::{MOST_DECIMALS, MOST_WHOLE, Token, token_bytes};
 use tx_read::{behind, capped_value, digit_count, entry, front, number_at_most};
 
-/// The digits at the front.
+/// The digits at the start.
 #[tactic(auto, using(crate::proofs::Digits::digits_all))]
 fn digits(bytes: &[u8]) -> &[u8]
     ensures front { result.now ≡ digits bytes.now }
@@ -21,7 +21,7 @@ fn digits(bytes: &[u8]) -> &[u8]
     front(bytes, digit_count(bytes))
 }
 
-/// What stands behind the digits at the front.
+/// What stands after the digits at the start.
 fn behind_digits(bytes: &[u8]) -> &[u8]
     ensures { result.now ≡ behind_digits bytes.now }
 {

@@ -17,7 +17,7 @@ pub up-none : (rows : List Row) (n : ℕ) → parent_of n rows ≡ None → ance
 up-none rows n none = alone rows (depth_of n rows) n none
 
 -- what is found above is one less deep and among the rows
-abbrev IsAbove : ℕ → List Row → Row → Type 0
+abbrev pub IsAbove : ℕ → List Row → Row → Type 0
 IsAbove depth rows row = (row.depth + 1 ≡ depth) × IsAmong row rows
 
 above-found : (depth : ℕ) (found : Option Row) (rows : List Row) (row : Row) → last_above depth found rows ≡ Some row → (found ≡ Some row) ⊎ IsAbove depth rows row
@@ -37,13 +37,13 @@ above-found depth found (first ∷ rows) row is = elim (cases_Bool (first.depth 
       ]
 ]
 
-above-none : (depth : ℕ) (rows : List Row) (row : Row) → last_above depth None rows ≡ Some row → IsAbove depth rows row
+pub above-none : (depth : ℕ) (rows : List Row) (row : Row) → last_above depth None rows ≡ Some row → IsAbove depth rows row
 above-none depth rows row is = elim (above-found depth None rows row is) [
   | inl no_row ↦ cc
   | inr more ↦ more
 ]
 
-before-among : (n : ℕ) (rows : List Row) (row : Row) → IsAmong row (before_of n rows) → IsAmong row rows
+pub before-among : (n : ℕ) (rows : List Row) (row : Row) → IsAmong row (before_of n rows) → IsAmong row rows
 before-among n [] row is = is
 before-among n (first ∷ rows) row is = elim (cases_Bool (has_number n first)) [
   | inl same ↦ let was = rw same at is in absurd was
@@ -56,14 +56,14 @@ before-among n (first ∷ rows) row is = elim (cases_Bool (has_number n first)) 
 ]
 
 -- where numbers differ, a row is the one with its number
-counted : (rows : List Row) (row : Row) → IsAmong row rows → 1 ≤ count_of (number row) rows
+pub counted : (rows : List Row) (row : Row) → IsAmong row rows → 1 ≤ count_of (number row) rows
 counted [] row is = absurd is
 counted (first ∷ rows) row is = elim is [
   | inl e ↦ let own : has_number (number row) first ≡ true = eq-eqb _ _ (ap number e) in rw own (omega arith)
   | inr more ↦ let one = counted rows row more in omega (arith, one)
 ]
 
-row-among : (rows : List Row) (row : Row) → count_of (number row) rows ≤ 1 → IsAmong row rows → row_at (number row) rows ≡ Some row
+pub row-among : (rows : List Row) (row : Row) → count_of (number row) rows ≤ 1 → IsAmong row rows → row_at (number row) rows ≡ Some row
 row-among [] row once is = absurd is
 row-among (first ∷ rows) row once is = elim is [
   | inl e ↦ let own : has_number (number row) first ≡ true = eq-eqb _ _ (ap number e) in rw own (ap (λ (r : Row). Some r) e)

@@ -47,7 +47,7 @@ pub fn numbers_of(bytes: &[u8]) -> Option<Numbers>
     Some(numbers)
 }
 
-/// The numbers behind a question mark.
+/// The numbers after a question mark.
 pub fn private_numbers_of(bytes: &[u8]) -> Option<Numbers>
     requires short { length bytes.now < 64 }
     ensures { numbers_in result ≡ private_numbers_of bytes.now }

@@ -12,7 +12,7 @@ pub const ESC: u8 = 0x1B;
 /// At most 64 bytes.
 pub type Unfinished = ArrayVec<u8, MOST>;
 
-/// Where in the stream the next byte stands: in the text, behind ESC, or behind `ESC [`.
+/// Where in the stream the next byte stands: in the text, after ESC, or after `ESC [`.
 #[derive(Clone, Copy)]
 pub enum Stage {
     InText,
@@ -62,7 +62,7 @@ pub fn stage_of(bytes: &[u8]) -> Stage
     }
 }
 
-/// What stands behind `ESC [`.
+/// What stands after `ESC [`.
 pub fn parameters(bytes: &[u8]) -> &[u8]
     ensures { result.now ≡ drop 2 bytes.now }
 {

@@ -48,7 +48,7 @@ fn all_plain(text: &str) -> bool
     text.chars().all(|character| is_plain(character))
 }
 
-/// Whether a unit differs: its cell, or the tail behind it. The slices are what stands behind the
+/// Whether a unit differs: its cell, or the tail after it. The slices are what stands after the
 /// cells.
 pub fn unit_differs(old: &Cell, new: &Cell, behind_old: &[Cell], behind_new: &[Cell]) -> bool
     ensures { result ≡ unit_differs (old.now, new.now) (zip behind_old.now behind_new.now) }

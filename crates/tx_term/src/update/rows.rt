@@ -10,8 +10,8 @@ use crate::update::writer::Writer;
 use tx_cell::{Cell, Grid};
 use tx_io::Sink;
 
-/// Writes the cell in a column, where it begins a unit that differs. Answers whether the unit behind
-/// it stands behind a plain one of its run.
+/// Writes the cell in a column, where it begins a unit that differs. Answers whether the unit after
+/// it stands after a plain one of its run.
 fn write_column<K: Sink>(
     writer: &mut Writer,
     sink: &mut K,

@@ -127,7 +127,7 @@ impl Writer {
         push_move(&mut self.gather, sink, row, column);
     }
 
-    /// The move before a unit, where it isn't a plain one behind a plain one.
+    /// The move before a unit, where it isn't a plain one after a plain one.
     fn move_before<K: Sink>(
         &mut self,
         sink: &mut K,
@@ -157,7 +157,7 @@ impl Writer {
         self.pen = Some(pen);
     }
 
-    /// The unit at row and column, counted from 0, behind a plain unit of its run or not. Answers
+    /// The unit at row and column, counted from 0, after a plain unit of its run or not. Answers
     /// whether it is plain.
     pub fn write_unit<K: Sink>(
         &mut self,

@@ -92,7 +92,7 @@ impl Tree {
         Ok(())
     }
 
-    /// Adds a class behind the others of a row where it is absent, and answers whether it was.
+    /// Adds a class after the others of a row where it is absent, and answers whether it was.
     ///
     /// It takes no memory where the row has room for a further class, and uses up at most one
     /// place of that room.

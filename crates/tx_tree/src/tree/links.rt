@@ -49,7 +49,7 @@ fn slot_is_spelled(slot: &Option<Node>) -> bool
     }
 }
 
-/// The first row behind the subtree of a node.
+/// The first row after the subtree of a node.
 pub fn first_after(nodes: &[Option<Node>], behind: &[u32], n: u32) -> Option<NodeId>
     requires linked { IsLinked (slots nodes.now) }
     requires next { KeepsNext (slots nodes.now) behind.now }

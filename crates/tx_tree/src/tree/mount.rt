@@ -125,7 +125,7 @@ fn add_child(nodes: &mut Vec<Option<Node>>, parent: u32, child: u32) -> Result<(
     Ok((depth, last))
 }
 
-// Puts a new node, without children, behind a sibling.
+// Puts a new node, without children, after a sibling.
 fn put_node(
     nodes: &mut Vec<Option<Node>>,
     behind: &mut Vec<u32>,

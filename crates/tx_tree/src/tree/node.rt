@@ -53,7 +53,7 @@ impl Children {
         self.items.last().copied().unwrap_or(0)
     }
 
-    /// Adds a child behind the others.
+    /// Adds a child after the others.
     pub fn push(&mut self, child: u32) -> Result<(), NoMemory>
         ensures ok { OnOk result (self.new ≡ self.old ++ child ∷ []) }
         ensures err { OnErr result (self.new ≡ self.old) }
