@@ -216,7 +216,7 @@ across_in_defined f H i b h o = size_defined f i b h o
 across_in_defined f Vw i b h o = size_defined f i b h o
 across_in_defined f Vh i b h o = size_defined f i b h o
 
-across_defined : Facts → (i : Item) (b : Bases) → AreBases b → IsOrdinaryItem i → Defined 100000 cells_top (λ z. across i b ≡ Some z)
+pub across_defined : Facts → (i : Item) (b : Bases) → AreBases b → IsOrdinaryItem i → Defined 100000 cells_top (λ z. across i b ≡ Some z)
 unfolding across
 across_defined f i b h o =
     let l = limits_defined f i b h o in

@@ -9,5 +9,6 @@ pub mod Ordinary
 pub mod Passes
 pub mod Places
 pub mod Shares
+pub mod ShortSpans
 pub mod Totals
 pub mod Follows

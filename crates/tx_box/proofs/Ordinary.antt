@@ -351,11 +351,11 @@ last_defined f (suc n) r ps count each o =
 
 -- ---- the sizes
 
-record SizesDefined (k n : ℕ) (answer : List Ratio → Type 0) : Type 0 where
-  value : List Ratio
-  is : answer value
-  over : Every (IsOver k (65535 * k)) value
-  count : length value ≤ n
+pub record SizesDefined (k n : ℕ) (answer : List Ratio → Type 0) : Type 0 where
+  pub value : List Ratio
+  pub is : answer value
+  pub over : Every (IsOver k (65535 * k)) value
+  pub count : length value ≤ n
 
 wish_defined : Facts → (u : Option Ratio) (s : Ratio) (j : ℕ) → 0 < j → IfSome u (λ u. (h : IsUnit u) × (h.parts ≡ j)) → IsOver 1000 (10 ^ 12) s → Defined (100000 * j) compared_top (λ v. wish u s ≡ Some v)
 wish_defined f None s j hj h o = record { value = cells 0; is = refl; over = record { number = 0 * (100000 * j); is = f.known.forms.whole (pos 0) (100000 * j); at_most = omega arith } }
@@ -385,11 +385,11 @@ each_defined f u j (p ∷ ps) hj few h each_part =
       count = omega arith;
     }
 
-record AllSizes (answer : List Ratio → Type 0) : Type 0 where
-  den : ℕ
-  positive : 0 < den
-  small : den ≤ 10 ^ 22
-  sizes : SizesDefined den 100000 answer
+pub record AllSizes (answer : List Ratio → Type 0) : Type 0 where
+  pub den : ℕ
+  pub positive : 0 < den
+  pub small : den ≤ 10 ^ 22
+  pub sizes : SizesDefined den 100000 answer
 
 by_unit : Facts → (u : Option Ratio) (ps : List Part) → length ps ≤ 100000 → IfSome u IsUnit → Every IsOverPart ps → AllSizes (λ cs. each (final_size u) ps ≡ Some cs)
 by_unit f None ps count h each_part =
@@ -466,7 +466,7 @@ spans_defined f k m x (c ∷ cs) (gap ∷ gaps) hk small few h o each_size =
 
 -- ---- an axis
 
-sizes_of_defined : Facts → (total : ℕ) (gaps : List ℕ) (ps : List Part) → total ≤ 2 ^ 23 → length gaps ≤ 100001 → All IsCells gaps → length ps ≤ 100000 → Every IsOverPart ps
+pub sizes_of_defined : Facts → (total : ℕ) (gaps : List ℕ) (ps : List Part) → total ≤ 2 ^ 23 → length gaps ≤ 100001 → All IsCells gaps → length ps ≤ 100000 → Every IsOverPart ps
     → AllSizes (λ cs. sizes_of total gaps ps ≡ Some cs)
 unfolding sizes_of last_of
 sizes_of_defined f total gaps ps small few h count each_part =

@@ -98,7 +98,7 @@ part_round u r (Growing s l) =
     (λ v. option_and_then (λ c. if same c v then Some (Growing s l, r) else option_map (λ left. (Settled c, left)) (sub r c)) (clamp l v))
     (mul s u)
 
--- with a part more in front
+-- with a part more before the others
 abbrev pub behind : Part → Option (Ratio × List Part) → Option (Ratio × List Part)
 behind p o = option_map (λ rest. (rest.0, p ∷ rest.1)) o
 
@@ -140,11 +140,11 @@ final_sizes r ps = option_and_then (λ u. each (final_size u) ps) (unit_of r ps)
 abbrev pub span : Ratio → Ratio → Span
 span x y = record { from = floor_of x; to = floor_of y }
 
--- the span of a size from x on, and the place behind the gap that follows it
+-- the span of a size from x on, and the place after the gap that follows it
 unfoldable pub placed : Ratio → Ratio → ℕ → Option (Span × Ratio)
 placed x size gap = option_and_then (λ end. option_map (λ next. (span x end, next)) (add end (cells gap))) (add x size)
 
--- the spans from x on, of sizes each with the gap behind it
+-- the spans from x on, of sizes each with the gap after it
 abbrev pub spans_from : Ratio → List (Ratio × ℕ) → Option (List Span)
 spans_from x [] = Some []
 spans_from x (s ∷ ss) = option_and_then (λ y. option_map (λ spans. y.0 ∷ spans) (spans_from y.1 ss)) (placed x s.0 s.1)
@@ -171,7 +171,7 @@ sizes_of total gaps ps = option_and_then (λ last. final_sizes last.0 last.1) (l
 unfoldable pub axis_sizes : List Item → List ℕ → Axis → Basis → List Size → Option (List Ratio)
 axis_sizes items gaps axis basis own = option_and_then (sizes_of (side axis basis.area) gaps) (axis_parts items axis basis own)
 
--- their spans, where the first gap stands in front of the first item
+-- their spans, where the first gap stands before the first item
 unfoldable pub axis_spans : List Item → List ℕ → Axis → Basis → List Size → Option (List Span)
 axis_spans items gaps axis basis own =
     option_and_then (λ sizes. spans_from (cells (slice_index gaps 0)) (zip sizes (drop 1 gaps))) (axis_sizes items gaps axis basis own)

@@ -1,10 +1,11 @@
 -- Numbers as stylesheets write them, and that an axis of such numbers has its spans.
-use Rattle.std.specs.Prelude.{ℕ, ◌+◌, ◌^◌, ◌<◌, ◌≤◌, ◌≡◌, pos, IfSome, IsSome, List, length, All}
+use Rattle.std.specs.Prelude.{ℕ, ◌+◌, ◌^◌, ◌<◌, ◌≤◌, ◌≡◌, pos, ℤ, ◌+ℤ◌, ◌≤ℤ◌, Some, IfSome, IsSome, List, length, All}
 use Rattle.tx_frac.specs.Ratio.{Ratio, IsRatio}
 use Rattle.tx_geom.specs.declared.places.Size.{Size}
 use Rattle.tx_geom.specs.declared.choices.Axis.{Axis}
 use Rattle.tx_box.specs.declared.items.Item.{Item}
 use Rattle.tx_box.specs.declared.items.Basis.{Basis}
+use Rattle.tx_box.specs.declared.items.Span.{Span}
 use Rattle.tx_box.specs.Sizes.{box_cells}
 use Rattle.tx_box.specs.Axis.{bases, axis_spans}
 
@@ -49,3 +50,21 @@ OrdinaryAxis = (items : List Item) (gaps : List ℕ) (axis : Axis) (basis : Basi
 abbrev pub OrdinaryBox : Type 0
 OrdinaryBox =
     (item : Item) (axis : Axis) (basis : Basis) (own : Size) → IsOrdinaryItem item → IsOrdinarySize basis.screen → IsOrdinarySize own → IsSome (box_cells item (bases axis basis own))
+
+-- at most 65,535 cells, from 0 on
+pub record IsShortSpan (s : Span) : Type 0 where
+  pub not_negative : pos 0 ≤ℤ s.from
+  pub forward : s.from ≤ℤ s.to
+  pub at_most : s.to ≤ℤ (s.from +ℤ pos 65535)
+
+-- each of their spans has at most 65,535 cells
+abbrev pub OrdinarySpans : Type 0
+OrdinarySpans =
+    (items : List Item) (gaps : List ℕ) (axis : Axis) (basis : Basis) (own : List Size) (spans : List Span) → OrdinaryItems items gaps basis own
+    → axis_spans items gaps axis basis own ≡ Some spans → All IsShortSpan spans
+
+-- so does such an item by itself
+abbrev pub OrdinaryCells : Type 0
+OrdinaryCells =
+    (item : Item) (axis : Axis) (basis : Basis) (own : Size) (n : ℤ) → IsOrdinaryItem item → IsOrdinarySize basis.screen → IsOrdinarySize own
+    → box_cells item (bases axis basis own) ≡ Some n → n ≤ℤ pos 65535

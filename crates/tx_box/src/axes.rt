@@ -16,8 +16,8 @@ use tx_geom::{Axis, Size};
 
 /// The spans in whole cells of items that follow each other in one direction of an area.
 ///
-/// `gaps` has one gap more than there are items: the first stands in front of the first item, and
-/// each other one behind an item. `own` has for each item what its percentages are taken of. There
+/// `gaps` has one gap more than there are items: the first stands before the first item, and
+/// each other one after an item. `own` has for each item what its percentages are taken of. There
 /// are at most 2^24 items, numbers are at least 0, and the least and the greatest sizes have
 /// neither `fr` nor `auto`.
 ///
@@ -83,7 +83,7 @@ fn work_out(parts: &mut [Part], gaps: &[u32], total: u32) -> Option<()>
     finish(parts, left)
 }
 
-// The spans of parts that have their sizes, behind the first gap.
+// The spans of parts that have their sizes, after the first gap.
 fn place(alloc: Global, parts: &[Part], gaps: &[u32], axis: Axis) -> Result<Vec<Span>, LayoutFault>
     requires settled { All IsSettledPart parts.now }
     requires gaps { length gaps.now ≡ length parts.now + 1 }
@@ -121,7 +121,7 @@ fn settled(part: &Part) -> Frac
     }
 }
 
-// The span of a size from a place on, and the place behind the gap that follows it.
+// The span of a size from a place on, and the place after the gap that follows it.
 #[tactic(auto, unfolding(crate::specs::Axis::placed))]
 fn place_one(from: Frac, size: Frac, gap: u32) -> Option<(Span, Frac)>
     requires from { IsUpTo (2 ^ 57) from }

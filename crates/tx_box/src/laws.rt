@@ -2,7 +2,7 @@
 //! of the definitions that [`crate::resolve_axis`] and [`crate::box_of`] give the answers of.
 
 ghost use Rattle.tx_box.specs.Laws.{FillsTotal, OneUnit, SpansFollow};
-ghost use Rattle.tx_box.specs.Ordinary.{OrdinaryAxis, OrdinaryBox};
+ghost use Rattle.tx_box.specs.Ordinary.{OrdinaryAxis, OrdinaryBox, OrdinaryCells, OrdinarySpans};
 
 /// Each item with a share in `fr` gets its share of one unit, which is the same for all of them,
 /// or its least size, its greatest size or 65,535.
@@ -48,6 +48,26 @@ pub fn ordinary_axis()
 /// The size of one box is always defined for such numbers.
 pub fn ordinary_box()
     ensures { OrdinaryBox }
+{
+    tx_frac::laws::one_form();
+    tx_frac::laws::sums_over_one();
+    tx_frac::laws::products_over_two();
+    tx_frac::laws::defined_in_range();
+}
+
+/// Each span of such numbers has at most 65,535 cells.
+pub fn ordinary_spans()
+    ensures { OrdinarySpans }
+{
+    tx_frac::laws::one_form();
+    tx_frac::laws::sums_over_one();
+    tx_frac::laws::products_over_two();
+    tx_frac::laws::defined_in_range();
+}
+
+/// So does one box of such numbers.
+pub fn ordinary_cells()
+    ensures { OrdinaryCells }
 {
     tx_frac::laws::one_form();
     tx_frac::laws::sums_over_one();

@@ -71,7 +71,7 @@ every_if : (P : Child → Type 0) (b : Bool) (c : Child) (cs : List Child) → P
 every_if P true c cs h hs = (h, hs)
 every_if P false c cs h hs = hs
 
-every_kept : (P : Child → Type 0) (p : Child → Bool) (cs : List Child) → Every P cs → Every P (filter p cs)
+pub every_kept : (P : Child → Type 0) (p : Child → Bool) (cs : List Child) → Every P cs → Every P (filter p cs)
 every_kept P p [] h = tt
 every_kept P p (c ∷ cs) h = every_if P (p c) c (filter p cs) h.0 (every_kept P p cs h.1)
 

@@ -244,7 +244,7 @@ drop_one : (gaps : List ℕ) (n : ℕ) → length gaps ≡ n + 1 → length (dro
 drop_one [] n h = absurd (omega arith)
 drop_one (g ∷ gs) n h = omega arith
 
-axis_long : (items : List Item) (gaps : List ℕ) (axis : Axis) (basis : Basis) (own : List Size) (spans : List Span) → length gaps ≡ length items + 1 → length own ≡ length items
+pub axis_long : (items : List Item) (gaps : List ℕ) (axis : Axis) (basis : Basis) (own : List Size) (spans : List Span) → length gaps ≡ length items + 1 → length own ≡ length items
     → axis_spans items gaps axis basis own ≡ Some spans → length spans ≡ length items
 unfolding axis_spans axis_sizes axis_parts
 axis_long items gaps axis basis own spans h k e =
@@ -257,15 +257,15 @@ axis_long items gaps axis basis own spans h k e =
 
 -- ---- a flow
 
-gaps_long : (axis : Axis) (margin : ℕ) (cs : List Child) → length (gaps_behind axis margin cs) ≡ length cs + 1
+pub gaps_long : (axis : Axis) (margin : ℕ) (cs : List Child) → length (gaps_behind axis margin cs) ≡ length cs + 1
 gaps_long axis margin [] = omega arith
 gaps_long axis margin (c ∷ cs) = let rest = gaps_long axis (behind_of axis c.style.margin) cs in omega arith
 
-map_long : {A B : Type 0} (f : A → B) (xs : List A) → length (map f xs) ≡ length xs
+pub map_long : {A B : Type 0} (f : A → B) (xs : List A) → length (map f xs) ≡ length xs
 map_long f [] = refl
 map_long f (x ∷ xs) = ap suc (map_long f xs)
 
-each_of_long : {A B F : Type 0} (f : A → Result B F) (xs : List A) (ys : List B) → each_of f xs ≡ Ok ys → length ys ≡ length xs
+pub each_of_long : {A B F : Type 0} (f : A → Result B F) (xs : List A) (ys : List B) → each_of f xs ≡ Ok ys → length ys ≡ length xs
 each_of_long {F} f [] ys e = ap length (sym (ok_is {F = F} [] ys e))
 each_of_long f (x ∷ xs) zs e =
     let s = stepped_from f x xs zs (f x) (each_of f xs) refl refl e in
@@ -279,7 +279,7 @@ record Laid (meaning : Ask → Option ℕ) (axis : Axis) (basis : Basis) (cs fs 
   is : fs ≡ with_spans axis cs spans
   long : length spans ≡ length cs
 
-refused_some : {A F : Type 0} (fault : F) (o : Option A) (x : A) → or_refused fault o ≡ Ok x → o ≡ Some x
+pub refused_some : {A F : Type 0} (fault : F) (o : Option A) (x : A) → or_refused fault o ≡ Ok x → o ≡ Some x
 refused_some fault None x e = absurd (let h : ⊥ = cc in h)
 refused_some {F} fault (Some y) x e = ap Some (ok_is {F = F} y x e)
 

@@ -3,12 +3,14 @@ use Rattle.std.proofs.Common.{◌≡◌, ℕ, zero, suc, ◌+◌, ◌*◌, ◌-�
 use Rattle.std.specs.Prelude.{◌+ℤ◌, ◌≤ℤ◌, All, slice_index, slice_index_or, map, ◌==◌, ◌||◌, if◌then◌else◌, Bool, true, false, IfOk, Result, Ok, Err}
 use Rattle.std.specs.List.{range_with_len}
 use Rattle.std.proofs.lemmas.Int.{ints}
+use Rattle.std.proofs.lemmas.List.Elements.{All-weaker}
 use Rattle.tx_box.specs.declared.items.Span.{Span}
 use Rattle.tx_box.specs.Laws.{Follow}
+use Rattle.tx_box.specs.Ordinary.{IsShortSpan}
 use Rattle.tx_layout.specs.Children.{IsNearSpan}
 use Rattle.tx_layout.specs.Grid.{AreTracks, track_gap, track_gaps}
 
-gap_if : (b : Bool) (gutter : ℕ) → (if b then 0 else gutter) ≤ gutter
+pub gap_if : (b : Bool) (gutter : ℕ) → (if b then 0 else gutter) ≤ gutter
 gap_if true gutter = omega arith
 gap_if false gutter = omega arith
 
@@ -31,10 +33,31 @@ pub record Reach (n : ℕ) (first last : Span) : Type 0 where
   pub forward : first.from ≤ℤ last.to
   pub near : last.to ≤ℤ (first.from +ℤ pos (75534 * n))
 
-pub reach : (spans : List Span) (i n : ℕ) (d : Span) → AreTracks spans → i + n < length spans → Reach (n + 1) (slice_index_or spans i d) (slice_index_or spans (i + n) d)
+-- spans of at most 65,535 cells, each of which begins at most 9,999 cells behind the one before it
+pub record AreJoined (spans : List Span) : Type 0 where
+  pub each : All IsShortSpan spans
+  pub next : (n : ℕ) (d : Span) → n + 1 < length spans
+      → (gutter : ℕ) × (gutter ≤ 9999) × ((slice_index_or spans (n + 1) d).from ≡ (slice_index_or spans n d).to +ℤ pos gutter)
+
+pub joined_tracks : (gutter count : ℕ) (spans : List Span) → gutter ≤ 9999 → All IsShortSpan spans → Follow (track_gaps gutter count) spans → AreJoined spans
+joined_tracks gutter count spans few each h =
+    record {
+      each = each;
+      next = λ n d within.
+          let g = gaps_at gutter count 0 (count + 1) (n + 1) in
+          (slice_index (track_gaps gutter count) (n + 1), omega arith, h.next n d within);
+    }
+
+joined_of : (spans : List Span) → AreTracks spans → AreJoined spans
+joined_of spans h =
+    record {
+      each = All-weaker IsNearSpan IsShortSpan (λ s near. record { not_negative = near.span.not_negative; forward = near.span.forward; at_most = near.span.at_most }) spans h.each;
+      next = h.next;
+    }
+
+pub reach : (spans : List Span) (i n : ℕ) (d : Span) → AreJoined spans → i + n < length spans → Reach (n + 1) (slice_index_or spans i d) (slice_index_or spans (i + n) d)
 reach spans i zero d h within =
-    let near = h.each i d (omega arith) in
-    let one = near.span in
+    let one = h.each i d (omega arith) in
     let p = one.forward in
     let q = one.at_most in
     subst (λ (m : ℕ). Reach 1 (slice_index_or spans i d) (slice_index_or spans m d)) (let e : i ≡ i + 0 = omega arith in e)
@@ -42,8 +65,7 @@ reach spans i zero d h within =
 reach spans i (suc n) d h within =
     let before = reach spans i n d h (omega arith) in
     let step = h.next (i + n) d (omega arith) in
-    let near = h.each (i + n + 1) d (omega arith) in
-    let one = near.span in
+    let one = h.each (i + n + 1) d (omega arith) in
     let at : slice_index_or spans (i + n + 1) d ≡ slice_index_or spans (i + suc n) d = ap (λ (m : ℕ). slice_index_or spans m d) (let e : i + n + 1 ≡ i + suc n = omega arith in e) in
     let a = before.forward in
     let b = before.near in
@@ -61,12 +83,12 @@ pub record Over (first last : Span) : Type 0 where
   pub forward : first.from ≤ℤ last.to
   pub near : last.to ≤ℤ (first.from +ℤ pos 7553400)
 
-near_more : (n : ℕ) (x y : ℤ) → n ≤ 100 → y ≤ℤ (x +ℤ pos (75534 * n)) → y ≤ℤ (x +ℤ pos 7553400)
+pub near_more : (n : ℕ) (x y : ℤ) → n ≤ 100 → y ≤ℤ (x +ℤ pos (75534 * n)) → y ≤ℤ (x +ℤ pos 7553400)
 near_more n x y few h = omega (arith, ints)
 
 pub over_tracks : (spans : List Span) (first count : ℕ) (d : Span) → AreTracks spans → 1 ≤ count → count ≤ 100 → first + count ≤ length spans → Over (slice_index_or spans first d) (slice_index_or spans (first + count - 1) d)
 over_tracks spans first count d h some few within =
-    let r = reach spans first (count - 1) d h (omega arith) in
+    let r = reach spans first (count - 1) d (joined_of spans h) (omega arith) in
     let near = h.each first d (omega arith) in
     let one = near.span in
     let low = one.not_negative in

@@ -12,3 +12,5 @@ pub mod InTracks
 pub mod Agreeing
 pub mod Filling
 pub mod Reaching
+pub mod Ordinary
+pub mod Shown

@@ -1,5 +1,7 @@
 -- Loops over lists that stop at the first refusal.
-use Rattle.std.proofs.Common.{◌≡◌, ℕ, ◌+◌, ◌<◌, ◌∙◌, refl, sym, ap, List, [], ◌∷◌, ◌++◌, length, drop, get_or, Option, Some, None, Result, Ok, Err, append_assoc, append-nil, add-one, drop-cons, length-append}
+use Rattle.std.proofs.Common.{◌≡◌, ℕ, ◌+◌, ◌<◌, ◌∙◌, refl, sym, ap, List, [], ◌∷◌, ◌++◌, length, take, drop, get_or, arith, Option, Some, None, Result, Ok, Err, append_assoc, append-nil, add-one, drop-cons, length-append}
+use Rattle.std.proofs.Math.ListN.{set}
+use Rattle.std.proofs.lemmas.List.{take_more_set, drop-set-lt}
 use Rattle.tx_read.specs.Answer.{Tells}
 use Rattle.tx_read.specs.Reading.{◌>>=◌}
 use Rattle.tx_layout.specs.Steps.{each_of}
@@ -35,6 +37,15 @@ each_next f xs i x y done h at is = ap (λ l. prefixed done (each_of f l)) (rest
 pub each_refused : {A B F : Type 0} (f : A → Result B F) (xs : List A) (i : ℕ) (x : A) (fault : F) (done : List B) → i < length xs → x ≡ get_or xs i x → f x ≡ Err fault → prefixed done (each_of f (drop i xs)) ≡ Err fault
 each_refused f xs i x fault done h at is =
     ap (λ l. prefixed done (each_of f l)) (rest_is xs i x h at) ∙ ap (λ r. prefixed done (r >>= (λ y. each_of f (drop (i + 1) xs) >>= (λ ys. Ok (y ∷ ys))))) is
+
+-- what is behind an element that was written
+pub drop_written : {A : Type 0} (xs : List A) (i : ℕ) (y : A) → drop (i + 1) (set xs i y) ≡ drop (i + 1) xs
+drop_written xs i y = drop-set-lt (i + 1) xs i y (omega arith)
+
+-- a loop's step that writes the answer in its place
+pub written_next : {A F : Type 0} (f : A → Result A F) (xs : List A) (i : ℕ) (x y : A) → i < length xs → x ≡ get_or xs i x → f x ≡ Ok y
+    → prefixed (take i xs) (each_of f (drop i xs)) ≡ prefixed (take (i + 1) (set xs i y)) (each_of f (drop (i + 1) (set xs i y)))
+written_next f xs i x y h at is = rw (take_more_set xs i y h, drop_written xs i y) (each_next f xs i x y (take i xs) h at is)
 
 pub pushed_length : {A : Type 0} (xs : List A) (y : A) (n : ℕ) → length xs ≡ n → length (xs ++ y ∷ []) ≡ n + 1
 pushed_length xs y n is = length-append xs (y ∷ []) ∙ ap (λ k. k + 1) is

@@ -86,7 +86,7 @@ pub record Layer : Type 0 where
   pub regions : List (ℕ × Region)
   pub over : Size
 
--- where a flow begins: behind the edge, and with the halves of the free cells before it
+-- where a flow begins: after the edge, and with the halves of the free cells before it
 abbrev pub start_x : AlignX → Edges → Size → Flow → ℕ
 start_x align e room f = e.left + shift (halves_x align) room.width f.wide
 

@@ -10,7 +10,7 @@ use Rattle.tx_layout.specs.declared.children.Child.{Child}
 use Rattle.tx_layout.specs.declared.children.Side.{Side}
 use Rattle.tx_layout.specs.Style.{IsBoxStyle}
 
--- cells that begin before 2^41, and a margin behind that
+-- cells that begin before 2^41, and a margin after that
 pub record IsSide (s : Side) : Type 0 where
   pub from : s.from ≤ 2 ^ 41 + 65535
   pub size : s.size < 2 ^ 32

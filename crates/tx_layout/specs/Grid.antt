@@ -65,7 +65,7 @@ track_item t = record { size = t; least = None; most = None; gutter = 0; sizing 
 abbrev pub track_items : List Scalar → ℕ → List Item
 track_items ts count = map (λ n. track_item (track_at ts n)) (range_with_len 0 count)
 
--- the gutter stands between tracks, and nothing before the first and behind the last
+-- the gutter stands between tracks, and nothing before the first and after the last
 abbrev pub track_gap : ℕ → ℕ → ℕ → ℕ
 track_gap gutter count n = if (n == 0) || (n == count) then 0 else gutter
 
@@ -163,7 +163,7 @@ grid_extent grid Height basis cs = rows_end grid basis cs
 
 -- ---- bounds
 
--- tracks as they come from an axis: each begins behind the one before it, and a gutter of at most 9,999 cells
+-- tracks as they come from an axis: each begins after the one before it, and a gutter of at most 9,999 cells
 pub record AreTracks (spans : List Span) : Type 0 where
   pub each : All IsNearSpan spans
   pub next : (n : ℕ) (d : Span) → n + 1 < length spans

@@ -1,5 +1,7 @@
 -- What holds of arrangements and measures, in an author's words.
-use Rattle.std.specs.Prelude.{ℕ, ◌<◌, ◌≡◌, pos, Option, Some, List, length, All, slice_index_or, Result, Ok}
+use Rattle.std.specs.Prelude.{ℕ, ◌<◌, ◌==◌, ◌≡◌, ◌++◌, pos, Option, Some, None, List, length, All, slice_index_or, Result, Ok}
+use Rattle.std.specs.List.{filter_map, flat_map, list_any, zip}
+use Rattle.std.specs.Option.{is_some, option_map}
 use Rattle.tx_frac.specs.Ratio.{Ratio}
 use Rattle.tx_geom.specs.Along.{side}
 use Rattle.tx_geom.specs.Region.{Holds}
@@ -13,13 +15,18 @@ use Rattle.tx_box.specs.declared.items.Basis.{Basis}
 use Rattle.tx_box.specs.declared.items.Item.{Item}
 use Rattle.tx_box.specs.declared.parts.Part.{Part}
 use Rattle.tx_layout.specs.declared.children.Child.{Child}
+use Rattle.tx_layout.specs.Children.{numbered, layers, docked, flow}
+use Rattle.tx_layout.specs.Grid.{cells_of}
 use Rattle.tx_layout.specs.Sides.{across, areas, gaps, measured}
 use Rattle.tx_layout.specs.Line.{Flow, line_of}
 use Rattle.tx_layout.specs.Steps.{each_of}
 use Rattle.tx_geom.specs.declared.choices.AlignX.{AlignX}
 use Rattle.tx_geom.specs.declared.choices.AlignY.{AlignY}
 use Rattle.tx_geom.specs.declared.choices.LayoutKind.{LayoutKind}
+use Rattle.tx_geom.specs.declared.choices.LayoutKind.TheVariants.{Vertical, Horizontal, Grid}
 use Rattle.tx_geom.specs.declared.places.Size.{Size}
+use Rattle.tx_grid.specs.declared.places.Cells.{Cells}
+use Rattle.tx_layout.specs.declared.styles.Arrangement.{Arrangement}
 use Rattle.tx_layout.specs.declared.styles.Ask.{Ask}
 use Rattle.tx_layout.specs.declared.styles.BoxStyle.{BoxStyle}
 use Rattle.tx_layout.specs.declared.styles.GridStyle.{GridStyle}
@@ -76,6 +83,29 @@ NoneShareCells =
     → (left top i j : ℕ) (d : Child) → i < j → j < length flow.children
     → HasNoOffset (slice_index_or flow.children i d) → HasNoOffset (slice_index_or flow.children j d)
     → (p : Offset) → Holds (flow_region left top (slice_index_or flow.children i d)) p → Holds (flow_region left top (slice_index_or flow.children j d)) p → ⊥
+
+-- ---- which children have a region
+
+-- a child that finds a place
+abbrev pub if_placed : Child × Option Cells → Option Child
+if_placed x = option_map (λ cells. x.0) x.1
+
+-- the children of a flow that get cells: all of a column or a row, and of a grid those that find a place
+abbrev pub placed_flow : LayoutKind → GridStyle → List Child → List Child
+placed_flow Vertical grid cs = cs
+placed_flow Horizontal grid cs = cs
+placed_flow Grid grid cs = filter_map if_placed (zip cs (cells_of grid cs))
+
+-- the children of a layer that get cells: the docked ones, and those of its flow
+abbrev pub celled : LayoutKind → GridStyle → List Child → List Child
+celled kind grid cs = docked cs ++ placed_flow kind grid (flow cs)
+
+-- A child has a region exactly where it is one of these: only children of a grid that are not docked and find no place have none.
+abbrev pub CelledHaveRegions : Type 0
+CelledHaveRegions =
+    (meaning : Ask → Option ℕ) (kind : LayoutKind) (grid : GridStyle) (align : AlignX × AlignY) (styles : List BoxStyle) (area screen : Size) (a : Arrangement)
+    → arranged meaning kind grid align styles area screen ≡ Ok a → (n : ℕ) → n < length styles
+    → is_some (slice_index_or a.placed n None) ≡ list_any (λ (c : Child). c.place == n) (flat_map (celled kind grid) (layers (numbered 0 styles)))
 
 -- ---- measures
 

@@ -9,3 +9,4 @@ pub mod Grid
 pub mod Flow
 pub mod Arrangement
 pub mod Laws
+pub mod Ordinary

@@ -25,7 +25,7 @@ is_in Docked c = is_docked c
 is_in AtSides c = is_at_side c
 is_in Flow c = is_in_flow c
 
--- where the margin behind a child ends
+-- where the margin after a child ends
 abbrev pub outer_end : Axis → Child → ℕ
 outer_end axis c = (side_in axis c).from + (side_in axis c).size + behind_of axis c.style.margin
 
@@ -61,7 +61,7 @@ edges_along Height e = e.top + e.bottom
 abbrev pub inside : Edges → Size → Size
 inside e area = record { width = area.width - (e.left + e.right); height = area.height - (e.top + e.bottom) }
 
--- where the margin behind the last of them ends, and 0 without children
+-- where the margin after the last of them ends, and 0 without children
 abbrev pub last_end : Axis → List Child → ℕ
 last_end axis cs = unwrap_or (last_or None (map (outer_end axis) cs)) 0
 

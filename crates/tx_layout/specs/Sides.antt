@@ -84,7 +84,7 @@ across_one meaning axis basis c =
 
 -- ---- along
 
--- the gaps behind a margin: between two margins the greater one counts, and the last margin stands at the end
+-- the gaps after a margin: between two margins the greater one counts, and the last margin stands at the end
 abbrev pub gaps_behind : Axis → ℕ → List Child → List ℕ
 gaps_behind axis margin [] = margin ∷ []
 gaps_behind axis margin (c ∷ cs) = max margin (ahead_of axis c.style.margin) ∷ gaps_behind axis (behind_of axis c.style.margin) cs

@@ -81,7 +81,7 @@ base s area = less area s.margin
 abbrev pub inner : BoxStyle → Size → Size
 inner s area = less (base s area) s.gutter
 
--- a place within 2^44 cells before and behind, less an offset
+-- a place within 2^44 cells before and after, less an offset
 pub record IsNearStart (z : ℤ) : Type 0 where
   pub low : neg_ℤ (pos 17592186034417) ≤ℤ z
   pub high : z ≤ℤ pos 17592186034417

@@ -37,12 +37,13 @@ pub fn laid_docked<F: Fn(Ask) -> Result<u32, LayoutFault>>(
         → Gives (λ v. v.items) told result (laid_docked meaning setting.basis layer.now) }
     ensures children { IfOk result (λ v. All (IsChild setting.count) v.items) }
 {
-    let docked = part_of(alloc, layer, Part::Docked, setting.count)?;
+    let mut docked = part_of(alloc, layer, Part::Docked, setting.count)?;
     let by_itself = Setting {
         main: None,
         ..setting
     };
-    sized_both(alloc, &docked, by_itself, measure)
+    sized_both(alloc, &mut docked, by_itself, measure)?;
+    Ok(docked)
 }
 
 /// What the edges leave of an area.
@@ -299,7 +300,7 @@ fn arrange_layer<F: Fn(Ask) -> Result<u32, LayoutFault>>(
     let edges = edges_of(&docked, setting.count);
     let children = part_of(alloc, layer, Part::Flow, setting.count)?;
     let within = flow_setting(edges, setting);
-    let flow = flow_of(alloc, &children, kind, grid, within, measure)?;
+    let flow = flow_of(alloc, children, kind, grid, within, measure)?;
     put_layer(
         laid,
         &docked,

@@ -22,19 +22,20 @@ use tx_geom::{Axis, LayoutKind};
 #[tactic(auto, unfolding(crate::specs::Line::line_of))]
 fn line_of<F: Fn(Ask) -> Result<u32, LayoutFault>>(
     alloc: Global,
-    children: &[Child],
+    children: Vec<Child>,
     setting: Setting,
     measure: &F,
 ) -> Result<LaidFlow, LayoutFault>
     requires callable { (ask : Ask) → ask.child < setting.count → F.pre measure.now ask }
-    requires children { All (IsChild setting.count) children.now }
-    requires count { length children.now ≤ 2 ^ 24 }
+    requires children { All (IsChild setting.count) children.items }
+    requires count { length children.items ≤ 2 ^ 24 }
     ensures exact { (meaning : Ask → Option ℕ)
         → Means (F.post measure.now) setting.count meaning
-        → Gives seen_flow told result (line_of meaning setting.main setting.basis children.now) }
+        → Gives seen_flow told result (line_of meaning setting.main setting.basis children.items) }
     ensures flow { IfOk result (IsFlow setting.count) }
 {
-    let children = sized_both(alloc, children, setting, measure)?;
+    let mut children = children;
+    sized_both(alloc, &mut children, setting, measure)?;
     let wide = extent(&children, setting.main, Axis::Width, setting.count);
     let tall = extent(&children, setting.main, Axis::Height, setting.count);
     Ok(LaidFlow {
@@ -44,21 +45,21 @@ fn line_of<F: Fn(Ask) -> Result<u32, LayoutFault>>(
     })
 }
 
-// Children with the cells that a measure along a direction needs.
+// Gives children the cells that a measure along a direction needs.
 fn sized_for<F: Fn(Ask) -> Result<u32, LayoutFault>>(
     alloc: Global,
-    children: &[Child],
+    children: &mut [Child],
     axis: Axis,
     setting: Setting,
     measure: &F,
-) -> Result<Vec<Child>, LayoutFault>
+) -> Result<(), LayoutFault>
     requires callable { (ask : Ask) → ask.child < setting.count → F.pre measure.now ask }
-    requires children { All (IsChild setting.count) children.now }
-    requires count { length children.now ≤ 2 ^ 24 }
+    requires children { All (IsChild setting.count) children.old }
+    requires count { length children.old ≤ 2 ^ 24 }
     ensures exact { (meaning : Ask → Option ℕ)
         → Means (F.post measure.now) setting.count meaning
-        → Gives (λ v. v.items) told result (sized_for axis meaning setting.main setting.basis children.now) }
-    ensures children { IfOk result (λ v. All (IsChild setting.count) v.items) }
+        → Gives (λ _. children.new) told result (sized_for axis meaning setting.main setting.basis children.old) }
+    ensures children { All (IsChild setting.count) children.new }
 {
     match axis {
         Axis::Width => sized(alloc, children, Axis::Width, setting, measure),
@@ -70,37 +71,38 @@ fn sized_for<F: Fn(Ask) -> Result<u32, LayoutFault>>(
 #[tactic(auto, unfolding(crate::specs::Line::line_extent))]
 fn line_extent<F: Fn(Ask) -> Result<u32, LayoutFault>>(
     alloc: Global,
-    children: &[Child],
+    children: Vec<Child>,
     axis: Axis,
     setting: Setting,
     measure: &F,
 ) -> Result<u64, LayoutFault>
     requires callable { (ask : Ask) → ask.child < setting.count → F.pre measure.now ask }
-    requires children { All (IsChild setting.count) children.now }
-    requires count { length children.now ≤ 2 ^ 24 }
+    requires children { All (IsChild setting.count) children.items }
+    requires count { length children.items ≤ 2 ^ 24 }
     ensures exact { (meaning : Ask → Option ℕ)
         → Means (F.post measure.now) setting.count meaning
-        → Gives (λ n. n) told result (line_extent meaning setting.main axis setting.basis children.now) }
+        → Gives (λ n. n) told result (line_extent meaning setting.main axis setting.basis children.items) }
     ensures bound { IfOk result (λ n. n < 2 ^ 42) }
 {
-    let sized = sized_for(alloc, children, axis, setting, measure)?;
-    Ok(extent(&sized, setting.main, axis, setting.count))
+    let mut children = children;
+    sized_for(alloc, &mut children, axis, setting, measure)?;
+    Ok(extent(&children, setting.main, axis, setting.count))
 }
 
 // Children that follow each other in a direction.
 fn line_along<F: Fn(Ask) -> Result<u32, LayoutFault>>(
     alloc: Global,
-    children: &[Child],
+    children: Vec<Child>,
     main: Axis,
     setting: Setting,
     measure: &F,
 ) -> Result<LaidFlow, LayoutFault>
     requires callable { (ask : Ask) → ask.child < setting.count → F.pre measure.now ask }
-    requires children { All (IsChild setting.count) children.now }
-    requires count { length children.now ≤ 2 ^ 24 }
+    requires children { All (IsChild setting.count) children.items }
+    requires count { length children.items ≤ 2 ^ 24 }
     ensures exact { (meaning : Ask → Option ℕ)
         → Means (F.post measure.now) setting.count meaning
-        → Gives seen_flow told result (line_of meaning (Some main) setting.basis children.now) }
+        → Gives seen_flow told result (line_of meaning (Some main) setting.basis children.items) }
     ensures flow { IfOk result (IsFlow setting.count) }
 {
     let main = Some(main);
@@ -110,7 +112,7 @@ fn line_along<F: Fn(Ask) -> Result<u32, LayoutFault>>(
 /// The flow of a layer with its cells.
 pub fn flow_of<F: Fn(Ask) -> Result<u32, LayoutFault>>(
     alloc: Global,
-    children: &[Child],
+    children: Vec<Child>,
     kind: LayoutKind,
     grid: &GridStyle,
     setting: Setting,
@@ -118,35 +120,35 @@ pub fn flow_of<F: Fn(Ask) -> Result<u32, LayoutFault>>(
 ) -> Result<LaidFlow, LayoutFault>
     requires grid { IsGridStyle grid.now }
     requires callable { (ask : Ask) → ask.child < setting.count → F.pre measure.now ask }
-    requires children { All (IsChild setting.count) children.now }
-    requires count { length children.now ≤ 65536 }
+    requires children { All (IsChild setting.count) children.items }
+    requires count { length children.items ≤ 65536 }
     ensures exact { (meaning : Ask → Option ℕ)
         → Means (F.post measure.now) setting.count meaning
-        → Gives seen_flow told result (flow_of meaning kind grid.now setting.basis children.now) }
+        → Gives seen_flow told result (flow_of meaning kind grid.now setting.basis children.items) }
     ensures flow { IfOk result (IsFlow setting.count) }
 {
     match kind {
         LayoutKind::Vertical => line_along(alloc, children, Axis::Height, setting, measure),
         LayoutKind::Horizontal => line_along(alloc, children, Axis::Width, setting, measure),
-        LayoutKind::Grid => grid_of(alloc, children, grid, setting, measure),
+        LayoutKind::Grid => grid_of(alloc, &children, grid, setting, measure),
     }
 }
 
 // How far children that follow each other in one direction go in another.
 fn extent_along<F: Fn(Ask) -> Result<u32, LayoutFault>>(
     alloc: Global,
-    children: &[Child],
+    children: Vec<Child>,
     main: Axis,
     axis: Axis,
     setting: Setting,
     measure: &F,
 ) -> Result<u64, LayoutFault>
     requires callable { (ask : Ask) → ask.child < setting.count → F.pre measure.now ask }
-    requires children { All (IsChild setting.count) children.now }
-    requires count { length children.now ≤ 2 ^ 24 }
+    requires children { All (IsChild setting.count) children.items }
+    requires count { length children.items ≤ 2 ^ 24 }
     ensures exact { (meaning : Ask → Option ℕ)
         → Means (F.post measure.now) setting.count meaning
-        → Gives (λ n. n) told result (line_extent meaning (Some main) axis setting.basis children.now) }
+        → Gives (λ n. n) told result (line_extent meaning (Some main) axis setting.basis children.items) }
     ensures bound { IfOk result (λ n. n < 2 ^ 42) }
 {
     let main = Some(main);
@@ -156,7 +158,7 @@ fn extent_along<F: Fn(Ask) -> Result<u32, LayoutFault>>(
 /// How far the flow of a layer goes in a direction, as a measure asks.
 pub fn flow_extent<F: Fn(Ask) -> Result<u32, LayoutFault>>(
     alloc: Global,
-    children: &[Child],
+    children: Vec<Child>,
     kind: LayoutKind,
     grid: &GridStyle,
     axis: Axis,
@@ -165,11 +167,11 @@ pub fn flow_extent<F: Fn(Ask) -> Result<u32, LayoutFault>>(
 ) -> Result<u64, LayoutFault>
     requires grid { IsGridStyle grid.now }
     requires callable { (ask : Ask) → ask.child < setting.count → F.pre measure.now ask }
-    requires children { All (IsChild setting.count) children.now }
-    requires count { length children.now ≤ 65536 }
+    requires children { All (IsChild setting.count) children.items }
+    requires count { length children.items ≤ 65536 }
     ensures exact { (meaning : Ask → Option ℕ)
         → Means (F.post measure.now) setting.count meaning
-        → Gives (λ n. n) told result (flow_extent meaning kind grid.now axis setting.basis children.now) }
+        → Gives (λ n. n) told result (flow_extent meaning kind grid.now axis setting.basis children.items) }
     ensures bound { IfOk result (λ n. n < 2 ^ 42) }
 {
     match kind {
@@ -179,6 +181,6 @@ pub fn flow_extent<F: Fn(Ask) -> Result<u32, LayoutFault>>(
         LayoutKind::Horizontal => {
             extent_along(alloc, children, Axis::Width, axis, setting, measure)
         }
-        LayoutKind::Grid => grid_extent(alloc, children, grid, axis, setting),
+        LayoutKind::Grid => grid_extent(alloc, &children, grid, axis, setting),
     }
 }

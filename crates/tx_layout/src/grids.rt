@@ -197,47 +197,44 @@ fn cut_in(framed: &Framed, axis: Axis, child: &Child, count: u32) -> Framed
     }
 }
 
-// Children each by itself in its area.
+// Gives children their sizes in one direction, each by itself in its area.
 fn all_sized_in<F: Fn(Ask) -> Result<u32, LayoutFault>>(
-    alloc: Global,
-    frames: &[Framed],
+    frames: &mut [Framed],
     axis: Axis,
     screen: Size,
     count: u32,
     measure: &F,
-) -> Result<Vec<Framed>, LayoutFault>
+) -> Result<(), LayoutFault>
     requires callable { (ask : Ask) → ask.child < count → F.pre measure.now ask }
-    requires frames { All (IsFramed count) frames.now }
+    requires frames { All (IsFramed count) frames.old }
     ensures exact { (meaning : Ask → Option ℕ)
         → Means (F.post measure.now) count meaning
-        → Gives (λ v. v.items) told result (each_of (sized_in meaning axis screen) frames.now) }
-    ensures frames { IfOk result (λ v. All (IsFramed count) v.items) }
+        → Gives (λ _. frames.new) told result (each_of (sized_in meaning axis screen) frames.old) }
+    ensures frames { All (IsFramed count) frames.new }
 {
-    let mut sized = Vec::with_capacity(alloc, frames.len())?;
-    for framed in frames {
-        sized.push(sized_in(framed, axis, screen, count, measure)?)?;
+    for framed in frames.iter_mut() {
+        *framed = sized_in(framed, axis, screen, count, measure)?;
     }
-    Ok(sized)
+    Ok(())
 }
 
-// Children with their widths, and then with their heights.
+// Gives children their widths, and then their heights.
 #[tactic(auto, unfolding(crate::specs::Grid::sized_frames))]
 fn sized_frames<F: Fn(Ask) -> Result<u32, LayoutFault>>(
-    alloc: Global,
-    frames: &[Framed],
+    frames: &mut [Framed],
     screen: Size,
     count: u32,
     measure: &F,
-) -> Result<Vec<Framed>, LayoutFault>
+) -> Result<(), LayoutFault>
     requires callable { (ask : Ask) → ask.child < count → F.pre measure.now ask }
-    requires frames { All (IsFramed count) frames.now }
+    requires frames { All (IsFramed count) frames.old }
     ensures exact { (meaning : Ask → Option ℕ)
         → Means (F.post measure.now) count meaning
-        → Gives (λ v. v.items) told result (sized_frames meaning screen frames.now) }
-    ensures frames { IfOk result (λ v. All (IsFramed count) v.items) }
+        → Gives (λ _. frames.new) told result (sized_frames meaning screen frames.old) }
+    ensures frames { All (IsFramed count) frames.new }
 {
-    let wide = all_sized_in(alloc, frames, Axis::Width, screen, count, measure)?;
-    all_sized_in(alloc, &wide, Axis::Height, screen, count, measure)
+    all_sized_in(frames, Axis::Width, screen, count, measure)?;
+    all_sized_in(frames, Axis::Height, screen, count, measure)
 }
 
 // The children that are placed, with their cells in the tracks.
@@ -323,9 +320,9 @@ pub fn grid_of<F: Fn(Ask) -> Result<u32, LayoutFault>>(
     let columns = columns_of(alloc, grid, setting.basis)?;
     let places = cells_of(alloc, grid, children, setting.count)?;
     let rows = rows_of(alloc, grid, setting.basis, &places)?;
-    let frames = framed(alloc, &columns, &rows, &places, children, setting.count)?;
-    let sized = sized_frames(alloc, &frames, setting.basis.screen, setting.count, measure)?;
-    grid_with(alloc, &columns, &rows, &sized, setting.count)
+    let mut frames = framed(alloc, &columns, &rows, &places, children, setting.count)?;
+    sized_frames(&mut frames, setting.basis.screen, setting.count, measure)?;
+    grid_with(alloc, &columns, &rows, &frames, setting.count)
 }
 
 // How far the columns go.

@@ -121,7 +121,7 @@ pub fn part_of(
     ensures children { IfOk result (λ v. All (IsChild count) v.items) }
     ensures count { IfOk result (λ v. length v.items ≤ length children.now) }
 {
-    let mut chosen = Vec::new(alloc);
+    let mut chosen = Vec::with_capacity(alloc, children.len())?;
     for child in children {
         if !is_in(part, child) {
             continue;
@@ -140,7 +140,7 @@ pub struct Edges {
     pub left: u64,
 }
 
-// Where the margin behind a child ends.
+// Where the margin after a child ends.
 fn outer_end(child: &Child, axis: Axis, count: u32) -> u64
     requires { IsChild count child.now }
     ensures exact { result ≡ outer_end axis child.now }
@@ -256,7 +256,7 @@ fn room_beside(room: u32, taken: u64) -> u32
     (room as u64).saturating_sub(taken) as u32
 }
 
-// Where the last of the margins behind children ends.
+// Where the last of the margins after children ends.
 fn greatest_end(children: &[Child], axis: Axis, count: u32) -> u64
     requires { All (IsChild count) children.now }
     ensures exact { result ≡ greatest (map (outer_end axis) children.now) }
@@ -269,7 +269,7 @@ fn greatest_end(children: &[Child], axis: Axis, count: u32) -> u64
     most
 }
 
-// Where the margin behind the last child ends.
+// Where the margin after the last child ends.
 fn last_end(children: &[Child], axis: Axis, count: u32) -> u64
     requires { All (IsChild count) children.now }
     ensures exact { result ≡ last_end axis children.now }

@@ -34,12 +34,13 @@ fn sides_of<F: Fn(Ask) -> Result<u32, LayoutFault>>(
         → Gives (λ v. v.items) told result (asked_docked meaning Width setting.basis layer.now) }
     ensures children { IfOk result (λ v. All (IsChild setting.count) v.items) }
 {
-    let at_sides = part_of(alloc, layer, Part::AtSides, setting.count)?;
+    let mut at_sides = part_of(alloc, layer, Part::AtSides, setting.count)?;
     let by_itself = Setting {
         main: None,
         ..setting
     };
-    sized(alloc, &at_sides, Axis::Width, by_itself, measure)
+    sized(alloc, &mut at_sides, Axis::Width, by_itself, measure)?;
+    Ok(at_sides)
 }
 
 // The docked children that a direction needs.
@@ -87,7 +88,7 @@ fn asked_layer<F: Fn(Ask) -> Result<u32, LayoutFault>>(
     let edges = edges_of(&docked, setting.count);
     let children = part_of(alloc, layer, Part::Flow, setting.count)?;
     let within = flow_setting(edges, setting);
-    let extent = flow_extent(alloc, &children, kind, grid, axis, within, measure)?;
+    let extent = flow_extent(alloc, children, kind, grid, axis, within, measure)?;
     Ok(edges.along(axis) + extent)
 }
 

@@ -178,28 +178,26 @@ pub fn across_one<F: Fn(Ask) -> Result<u32, LayoutFault>>(
     Ok(with_side(child, axis, Side { from, size }, count))
 }
 
-// Children each by itself.
+// Gives children their cells, each by itself.
 #[tactic(auto, unfolding(crate::specs::Sides::across))]
 fn across<F: Fn(Ask) -> Result<u32, LayoutFault>>(
-    alloc: Global,
-    children: &[Child],
+    children: &mut [Child],
     axis: Axis,
     setting: Setting,
     measure: &F,
-) -> Result<Vec<Child>, LayoutFault>
+) -> Result<(), LayoutFault>
     requires callable { (ask : Ask) → ask.child < setting.count → F.pre measure.now ask }
-    requires children { All (IsChild setting.count) children.now }
+    requires children { All (IsChild setting.count) children.old }
     ensures exact { (meaning : Ask → Option ℕ)
         → Means (F.post measure.now) setting.count meaning
-        → Gives (λ v. v.items) told result (across meaning axis setting.basis children.now) }
-    ensures children { IfOk result (λ v. All (IsChild setting.count) v.items) }
-    ensures count { IfOk result (λ v. length v.items ≤ length children.now) }
+        → Gives (λ _. children.new) told result (across meaning axis setting.basis children.old) }
+    ensures children { All (IsChild setting.count) children.new }
+    ensures count { length children.new ≡ length children.old }
 {
-    let mut sized = Vec::with_capacity(alloc, children.len())?;
-    for child in children {
-        sized.push(across_one(child, axis, setting.basis, setting.count, measure)?)?;
+    for child in children.iter_mut() {
+        *child = across_one(child, axis, setting.basis, setting.count, measure)?;
     }
-    Ok(sized)
+    Ok(())
 }
 
 // Children as boxes along a direction.
@@ -225,7 +223,7 @@ fn all_measured<F: Fn(Ask) -> Result<u32, LayoutFault>>(
     Ok(items)
 }
 
-// The gaps before, between and behind children.
+// The gaps before, between and after children.
 fn gaps(alloc: Global, children: &[Child], axis: Axis) -> Result<Vec<u32>, LayoutFault>
     requires { length children.now ≤ 2 ^ 24 }
     ensures count { IfOk result (λ v. length v.items ≡ length children.now + 1) }
@@ -254,26 +252,18 @@ fn areas(alloc: Global, children: &[Child], area: Size) -> Result<Vec<Size>, Lay
     Ok(areas)
 }
 
-// The children with the cells of their spans.
-fn with_spans(
-    alloc: Global,
-    children: &[Child],
-    spans: &[Span],
-    axis: Axis,
-    count: u32,
-) -> Result<Vec<Child>, LayoutFault>
-    requires children { All (IsChild count) children.now }
+// Gives children the cells of their spans.
+fn take_spans(children: &mut [Child], spans: &[Span], axis: Axis, count: u32)
+    requires children { All (IsChild count) children.old }
     requires spans { All IsNearSpan spans.now }
-    requires one_each { length spans.now ≡ length children.now }
-    ensures exact { Gives (λ v. v.items) told result (Ok (with_spans axis children.now spans.now)) }
-    ensures children { IfOk result (λ v. All (IsChild count) v.items) }
-    ensures count { IfOk result (λ v. length v.items ≤ length children.now) }
+    requires one_each { length spans.now ≡ length children.old }
+    ensures exact { children.new ≡ with_spans axis children.old spans.now }
+    ensures children { All (IsChild count) children.new }
+    ensures count { length children.new ≡ length children.old }
 {
-    let mut sized = Vec::with_capacity(alloc, children.len())?;
-    for (index, child) in children.iter().enumerate() {
-        sized.push(with_side(child, axis, side_of(spans[index]), count))?;
+    for index in 0..children.len() {
+        children[index] = with_side(&children[index], axis, side_of(spans[index]), count);
     }
-    Ok(sized)
 }
 
 /// The spans of boxes with gaps of at most 65,535 cells, all of which end before 2^41.
@@ -298,29 +288,30 @@ pub fn near_spans(
     resolve_axis(alloc, items, gaps, axis, basis, own)
 }
 
-// Children one after another.
+// Gives children their cells, one after another.
 #[tactic(auto, unfolding(crate::specs::Sides::along))]
 fn along<F: Fn(Ask) -> Result<u32, LayoutFault>>(
     alloc: Global,
-    children: &[Child],
+    children: &mut [Child],
     axis: Axis,
     setting: Setting,
     measure: &F,
-) -> Result<Vec<Child>, LayoutFault>
+) -> Result<(), LayoutFault>
     requires callable { (ask : Ask) → ask.child < setting.count → F.pre measure.now ask }
-    requires children { All (IsChild setting.count) children.now }
-    requires count { length children.now ≤ 2 ^ 24 }
+    requires children { All (IsChild setting.count) children.old }
+    requires count { length children.old ≤ 2 ^ 24 }
     ensures exact { (meaning : Ask → Option ℕ)
         → Means (F.post measure.now) setting.count meaning
-        → Gives (λ v. v.items) told result (along meaning axis setting.basis children.now) }
-    ensures children { IfOk result (λ v. All (IsChild setting.count) v.items) }
-    ensures count { IfOk result (λ v. length v.items ≤ length children.now) }
+        → Gives (λ _. children.new) told result (along meaning axis setting.basis children.old) }
+    ensures children { All (IsChild setting.count) children.new }
+    ensures count { length children.new ≡ length children.old }
 {
     let items = all_measured(alloc, children, axis, setting, measure)?;
     let gaps = gaps(alloc, children, axis)?;
     let own = areas(alloc, children, setting.basis.area)?;
     let spans = near_spans(alloc, &items, &gaps, axis, setting.basis, &own)?;
-    with_spans(alloc, children, &spans, axis, setting.count)
+    take_spans(children, &spans, axis, setting.count);
+    Ok(())
 }
 
 /// Whether children follow each other in a direction.
@@ -340,46 +331,46 @@ pub fn is_main(main: Option<Axis>, axis: Axis) -> bool
     }
 }
 
-/// The children with their cells in one direction.
+/// Gives children their cells in one direction.
 pub fn sized<F: Fn(Ask) -> Result<u32, LayoutFault>>(
     alloc: Global,
-    children: &[Child],
+    children: &mut [Child],
     axis: Axis,
     setting: Setting,
     measure: &F,
-) -> Result<Vec<Child>, LayoutFault>
+) -> Result<(), LayoutFault>
     requires callable { (ask : Ask) → ask.child < setting.count → F.pre measure.now ask }
-    requires children { All (IsChild setting.count) children.now }
-    requires count { length children.now ≤ 2 ^ 24 }
+    requires children { All (IsChild setting.count) children.old }
+    requires count { length children.old ≤ 2 ^ 24 }
     ensures exact { (meaning : Ask → Option ℕ)
         → Means (F.post measure.now) setting.count meaning
-        → Gives (λ v. v.items) told result (sized meaning setting.main setting.basis axis children.now) }
-    ensures children { IfOk result (λ v. All (IsChild setting.count) v.items) }
-    ensures count { IfOk result (λ v. length v.items ≤ length children.now) }
+        → Gives (λ _. children.new) told result (sized meaning setting.main setting.basis axis children.old) }
+    ensures children { All (IsChild setting.count) children.new }
+    ensures count { length children.new ≡ length children.old }
 {
     if is_main(setting.main, axis) {
         along(alloc, children, axis, setting, measure)
     } else {
-        across(alloc, children, axis, setting, measure)
+        across(children, axis, setting, measure)
     }
 }
 
-/// The children with their columns, and then with their rows.
+/// Gives children their columns, and then their rows.
 #[tactic(auto, unfolding(crate::specs::Sides::sized_both))]
 pub fn sized_both<F: Fn(Ask) -> Result<u32, LayoutFault>>(
     alloc: Global,
-    children: &[Child],
+    children: &mut [Child],
     setting: Setting,
     measure: &F,
-) -> Result<Vec<Child>, LayoutFault>
+) -> Result<(), LayoutFault>
     requires callable { (ask : Ask) → ask.child < setting.count → F.pre measure.now ask }
-    requires children { All (IsChild setting.count) children.now }
-    requires count { length children.now ≤ 2 ^ 24 }
+    requires children { All (IsChild setting.count) children.old }
+    requires count { length children.old ≤ 2 ^ 24 }
     ensures exact { (meaning : Ask → Option ℕ)
         → Means (F.post measure.now) setting.count meaning
-        → Gives (λ v. v.items) told result (sized_both meaning setting.main setting.basis children.now) }
-    ensures children { IfOk result (λ v. All (IsChild setting.count) v.items) }
+        → Gives (λ _. children.new) told result (sized_both meaning setting.main setting.basis children.old) }
+    ensures children { All (IsChild setting.count) children.new }
 {
-    let wide = sized(alloc, children, Axis::Width, setting, measure)?;
-    sized(alloc, &wide, Axis::Height, setting, measure)
+    sized(alloc, children, Axis::Width, setting, measure)?;
+    sized(alloc, children, Axis::Height, setting, measure)
 }

@@ -1,1 +1,3 @@
 mod Within
+mod Ordinary
+mod FewDecimals

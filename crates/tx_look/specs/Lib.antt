@@ -1,3 +1,4 @@
 pub mod Layers
 pub mod Boxes
 pub mod Content
+pub mod Ordinary

@@ -5,6 +5,7 @@
 mod boxes;
 mod content;
 mod grids;
+pub mod laws;
 mod layers;
 
 pub use boxes::box_style;

@@ -8,3 +8,11 @@ mod Wholes
 mod Walking
 mod Trees
 mod Bars
+mod Nodes
+mod Ordinary
+mod OrdinaryStyles
+mod OrdinaryRows
+mod OrdinarySheets
+mod Subtrees
+mod Kept
+mod Refused

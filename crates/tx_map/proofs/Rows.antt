@@ -1,6 +1,6 @@
 -- Rows in preorder: the rows below one of them, and the ones behind these.
-use Rattle.std.proofs.Common.{◌≡◌, ℕ, zero, suc, ◌+◌, ◌-◌, ◌<◌, ◌≤◌, Bool, true, false, cond, List, [], ◌∷◌, length, drop, get_or, ◌∙◌, refl, sym, ap, drop-cons, arith}
-use Rattle.std.proofs.lemmas.Bool.{le-ltb, lt-ltb, ltb-true}
+use Rattle.std.proofs.Common.{◌≡◌, ℕ, suc, ◌+◌, ◌-◌, ◌<◌, ◌≤◌, Bool, true, false, cond, List, [], ◌∷◌, length, drop, get_or, ◌∙◌, refl, sym, ap, drop-cons, arith}
+use Rattle.std.proofs.lemmas.Bool.{le-ltb, lt-ltb}
 use Rattle.std.proofs.lemmas.List.{drop-drop, length-drop}
 use Rattle.std.proofs.lemmas.List.Sums.{prefix_len-le-length}
 use Rattle.std.proofs.Math.ListN.{drop_of_length-le}
@@ -11,64 +11,8 @@ use Rattle.tx_layout.specs.declared.styles.BoxStyle.{BoxStyle}
 use Rattle.tx_look.specs.Boxes.{box_style}
 use Rattle.tx_sizes.specs.Measures.{boxes, is_taking_part}
 use Rattle.tx_value.specs.declared.value.Value.{Value}
+use Rattle.tx_sizes.proofs.lemmas.RowsBelow.{behind-count, counts-drop, length-counts, prefix-deeper}
 use Rattle.tx_sizes.specs.Forest.{Styled, Forest, Empty, Grown, depth, under, behind, forest}
-
-deeper_too : (d e n : ℕ) → d ≤ e → nat_lt e n ≡ true → nat_lt d n ≡ true
-deeper_too d e n h is = let less : e < n = ltb-true e n is in lt-ltb d n (omega arith)
-
--- ---- what stands behind the deeper ones
-
-again_behind : (d e : ℕ) → d ≤ e → (row : Styled) (below beside : Forest) → behind d (behind e beside) ≡ behind d beside
-    → (deep : Bool) → nat_lt e (depth row) ≡ deep → behind d (cond deep (behind e beside) (Grown row below beside)) ≡ behind d (Grown row below beside)
-again_behind d e h row below beside same true is = rw (deeper_too d e (depth row) h is) same
-again_behind d e h row below beside same false is = refl
-
-behind_behind : (d e : ℕ) → d ≤ e → (f : Forest) → behind d (behind e f) ≡ behind d f
-behind_behind d e h Empty = refl
-behind_behind d e h (Grown row below beside) =
-    again_behind d e h row below beside (behind_behind d e h beside) (nat_lt e (depth row)) refl
-
-skipped : (d : ℕ) (row : Styled) (rows : List Styled) → behind d (forest rows) ≡ forest (drop (prefix_len (is_deeper d) rows) rows)
-    → (deep : Bool) → nat_lt d (depth row) ≡ deep
-    → cond deep (behind d (behind (depth row) (forest rows))) (forest (row ∷ rows)) ≡ forest (drop (cond deep (1 + prefix_len (is_deeper d) rows) 0) (row ∷ rows))
-skipped d row rows same true is =
-    let less : d < depth row = ltb-true d (depth row) is in
-    let next : 1 + prefix_len (is_deeper d) rows ≡ suc (prefix_len (is_deeper d) rows) = omega arith in
-    rw next (behind_behind d (depth row) (omega arith) (forest rows) ∙ same)
-skipped d row rows same false is = refl
-
-behind_count : (d : ℕ) (rows : List Styled) → behind d (forest rows) ≡ forest (drop (prefix_len (is_deeper d) rows) rows)
-unfolding forest
-behind_count d [] = refl
-behind_count d (row ∷ rows) = skipped d row rows (behind_count d rows) (nat_lt d (depth row)) refl
-
--- ---- counts
-
-pub length_counts : (rows : List Styled) → length (counts rows) ≡ length rows
-unfolding counts
-length_counts [] = refl
-length_counts (row ∷ rows) = ap suc (length_counts rows)
-
-pub counts_drop : (n : ℕ) (rows : List Styled) → counts (drop n rows) ≡ drop n (counts rows)
-unfolding counts
-counts_drop zero rows = refl
-counts_drop (suc n) [] = refl
-counts_drop (suc n) (row ∷ rows) = counts_drop n rows
-
-longer : (d e : ℕ) → d ≤ e → (row : Styled) (rows : List Styled)
-    → prefix_len (is_deeper d) rows ≡ prefix_len (is_deeper e) rows + prefix_len (is_deeper d) (drop (prefix_len (is_deeper e) rows) rows)
-    → (deep : Bool) → nat_lt e (depth row) ≡ deep
-    → prefix_len (is_deeper d) (row ∷ rows) ≡ cond deep (1 + prefix_len (is_deeper e) rows) 0 + prefix_len (is_deeper d) (drop (cond deep (1 + prefix_len (is_deeper e) rows) 0) (row ∷ rows))
-longer d e h row rows same true is =
-    let next : 1 + prefix_len (is_deeper e) rows ≡ suc (prefix_len (is_deeper e) rows) = omega arith in
-    rw (deeper_too d e (depth row) h is, next) (omega (arith, same))
-longer d e h row rows same false is = omega arith
-
--- the rows deeper than a depth are those deeper than a greater one, and then those behind these
-prefix_deeper : (d e : ℕ) → d ≤ e → (rows : List Styled)
-    → prefix_len (is_deeper d) rows ≡ prefix_len (is_deeper e) rows + prefix_len (is_deeper d) (drop (prefix_len (is_deeper e) rows) rows)
-prefix_deeper d e h [] = refl
-prefix_deeper d e h (row ∷ rows) = longer d e h row rows (prefix_deeper d e h rows) (nat_lt e (depth row)) refl
 
 -- ---- one child of a container at depth d
 
@@ -86,8 +30,8 @@ child_at d rows at row h is deep =
     let rest = drop (suc at) rows in
     let here : drop at rows ≡ row ∷ rest = drop-cons rows at row h ∙ ap (λ r. r ∷ rest) (sym is) in
     let c = prefix_len (is_deeper (depth row)) rest in
-    let counted : drop at (counts rows) ≡ c ∷ counts rest = sym (counts_drop at rows) ∙ ap counts here in
-    let known : drop at (counts rows) ≡ get_or (counts rows) at 0 ∷ drop (suc at) (counts rows) = drop-cons (counts rows) at 0 (rw (length_counts rows) h) in
+    let counted : drop at (counts rows) ≡ c ∷ counts rest = sym (counts-drop at rows) ∙ ap counts here in
+    let known : drop at (counts rows) ≡ get_or (counts rows) at 0 ∷ drop (suc at) (counts rows) = drop-cons (counts rows) at 0 (rw (length-counts rows) h) in
     let count : slice_index (counts rows) at ≡ c = ap (λ (ns : List ℕ). get_or ns 0 0) (sym known ∙ counted) in
     let few : c ≤ length rest = prefix_len-le-length (is_deeper (depth row)) rest in
     let long : length rest ≡ length rows - suc at = length-drop (suc at) rows in
@@ -111,7 +55,7 @@ tops {d} {at} {next} {rows} {row} child =
     let c = prefix_len (is_deeper (depth row)) rest in
     let later : drop c rest ≡ drop next rows = drop-drop c (suc at) rows ∙ ap (λ n. drop n rows) (let e : suc at + c ≡ next = omega (arith, child.then) in e) in
     let others : under d (behind (depth row) (forest rest)) ≡ from d rows next =
-    ap (under d) (behind_count (depth row) rest) ∙ ap (λ rows. under d (forest rows)) later in
+    ap (under d) (behind-count (depth row) rest) ∙ ap (λ rows. under d (forest rows)) later in
     let is : nat_lt d (depth row) ≡ true = lt-ltb d (depth row) child.deep in
     ap (λ rows. under d (forest rows)) child.here ∙ rw is (ap (Grown row (under (depth row) (forest rest))) others)
 
@@ -142,7 +86,7 @@ passed_next {d} {at} {next} {rows} {row} passed child =
     let rest = drop (suc at) rows in
     let c = prefix_len (is_deeper (depth row)) rest in
     let is : nat_lt d (depth row) ≡ true = lt-ltb d (depth row) child.deep in
-    let more : p rest ≡ c + p (drop c rest) = prefix_deeper d (depth row) (omega (arith, child.deep)) rest in
+    let more : p rest ≡ c + p (drop c rest) = prefix-deeper d (depth row) (omega (arith, child.deep)) rest in
     let first : p (drop at rows) ≡ 1 + p rest = ap p child.here ∙ rw is refl in
     let later : drop c rest ≡ drop next rows = drop-drop c (suc at) rows ∙ ap (λ n. drop n rows) (let e : suc at + c ≡ next = omega (arith, child.then) in e) in
     let last : p (drop c rest) ≡ p (drop next rows) = ap p later in

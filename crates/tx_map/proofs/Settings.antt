@@ -11,11 +11,11 @@ use Rattle.tx_sizes.specs.Forest.{Styled, Forest, Empty, Grown}
 use Rattle.tx_sizes.specs.Measures.{Measure, boxes, is_taking_part, measures}
 
 -- what the children of a container give
-abbrev Walk : Type 0
+abbrev pub Walk : Type 0
 Walk = Container → ℕ → List (Option Region) → Mapped (List Entry)
 
 -- one row more, with what those below and beside it give
-abbrev step : Scene → Styled → List BoxStyle → List Measure → Walk → Walk → Walk
+abbrev pub step : Scene → Styled → List BoxStyle → List Measure → Walk → Walk → Walk
 step scene row bs ms below beside above place regions =
     if is_taking_part row then
     entries_if (λ region. row_entries scene row bs ms (λ within. below within 0) (child_place above row place region)) (first_region regions) >>= (λ own.

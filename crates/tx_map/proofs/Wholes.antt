@@ -11,7 +11,7 @@ use Rattle.tx_geom.specs.declared.places.Region.{Region}
 use Rattle.tx_layout.specs.Sides.{count_of}
 use Rattle.tx_layout.specs.declared.styles.BoxStyle.{BoxStyle}
 use Rattle.tx_map.specs.LayoutMap.{Mapped, Place, Container, at_node, barred_row, container, content_size, entries, entries_if, entries_from, entries_with, entry_at, first_region, row_entries, child_place, screen_place}
-use Rattle.tx_map.specs.Laws.{SubtreesArrange, SubtreesAreMapped, FillsScreen, ScreenFills, IsClippedTo, SubtreesAreClipped}
+use Rattle.tx_map.specs.Laws.{FillsScreen, ScreenFills, IsClippedTo, SubtreesAreClipped}
 use Rattle.tx_map.specs.Scene.{Scene, rows_of}
 use Rattle.tx_map.specs.Subtrees.{rows_below, setting}
 use Rattle.tx_map.specs.declared.entry.Entry.{Entry}
@@ -30,19 +30,11 @@ first_below Empty = Empty
 first_below (Grown row below beside) = below
 
 -- the rows below a row are the deeper ones behind it
-alone : SubtreesStandAlone → (row : Styled) (below after : List Styled) → AreDeeper (depth row) below → BeginsBeside (depth row) after → rows_below row (below ++ after) ≡ forest below
+pub alone : SubtreesStandAlone → (row : Styled) (below after : List Styled) → AreDeeper (depth row) below → BeginsBeside (depth row) after → rows_below row (below ++ after) ≡ forest below
 unfolding forest
 alone law row below after deeper beside = ap first_below (law row below after deeper beside)
 
-same_below : SubtreesStandAlone → (row : Styled) (below after other : List Styled) → AreDeeper (depth row) below → BeginsBeside (depth row) after → BeginsBeside (depth row) other
-    → rows_below row (below ++ after) ≡ rows_below row (below ++ other)
-same_below law row below after other deeper a b = alone law row below after deeper a ∙ sym (alone law row below other deeper b)
-
-pub subtrees_arrange : SubtreesStandAlone → SubtreesArrange
-subtrees_arrange law row below after other deeper a b pictures screen content =
-    ap (λ f. barred_row screen row (boxes row.style f) (measures pictures screen f) content) (same_below law row below after other deeper a b)
-
-abbrev entries_over : Scene → Styled → Forest → Place → Mapped (List Entry)
+abbrev pub entries_over : Scene → Styled → Forest → Place → Mapped (List Entry)
 entries_over scene row f place = row_entries scene row (boxes row.style f) (measures scene.pictures scene.size f) (λ within. entries scene f within 0) place
 
 -- only the setting counts
@@ -51,23 +43,14 @@ set_over scene row f place =
     set_row scene row (boxes row.style f) (measures scene.pictures scene.size f) (λ within. entries scene f within 0) place
     ∙ ap (λ (es : Container → ℕ → List (Option Region) → Mapped (List Entry)). row_entries (setting scene.pictures scene.scrolls scene.size) row (boxes row.style f) (measures scene.pictures scene.size f) (λ within. es within 0) place) (set_entries scene f)
 
-pub subtrees_are_mapped : SubtreesStandAlone → SubtreesAreMapped
-subtrees_are_mapped law row below after other deeper a b first second pictures scrolls size place =
-    set_over first row (rows_below row (below ++ after)) place
-    ∙ ap (λ f. entries_over (setting first.pictures first.scrolls first.size) row f place) (same_below law row below after other deeper a b)
-    ∙ ap (λ p. entries_over (setting p first.scrolls first.size) row (rows_below row (below ++ other)) place) pictures
-    ∙ ap (λ s. entries_over (setting second.pictures s first.size) row (rows_below row (below ++ other)) place) scrolls
-    ∙ ap (λ s. entries_over (setting second.pictures second.scrolls s) row (rows_below row (below ++ other)) place) size
-    ∙ sym (set_over second row (rows_below row (below ++ other)) place)
-
 -- ---- what stands at the front
 
 -- the entries of a row that is mapped are its own and those below it
-record IsMapped (scene : Scene) (row : Styled) (place : Place) (children : Container → List (Option Region) → Mapped (List Entry)) (es : List Entry) : Type 0 where
-  bars : Barred
-  rest : List Entry
-  below : children (container scene row place bars) bars.arrangement.placed ≡ Ok rest
-  all : es ≡ entry_at scene row place bars ∷ rest
+pub record IsMapped (scene : Scene) (row : Styled) (place : Place) (children : Container → List (Option Region) → Mapped (List Entry)) (es : List Entry) : Type 0 where
+  pub bars : Barred
+  pub rest : List Entry
+  pub below : children (container scene row place bars) bars.arrangement.placed ≡ Ok rest
+  pub all : es ≡ entry_at scene row place bars ∷ rest
 
 mapped_below : (scene : Scene) (row : Styled) (place : Place) (children : Container → List (Option Region) → Mapped (List Entry)) (es : List Entry) (bars : Barred) (r : Mapped (List Entry))
     → children (container scene row place bars) bars.arrangement.placed ≡ r → (r >>= (λ below. Ok (entry_at scene row place bars ∷ below))) ≡ Ok es → IsMapped scene row place children es
@@ -79,7 +62,7 @@ mapped_row : (scene : Scene) (row : Styled) (place : Place) (children : Containe
 mapped_row scene row place children es (Ok bars) is = mapped_below scene row place children es bars (children (container scene row place bars) bars.arrangement.placed) refl is
 mapped_row scene row place children es (Err axis) is = cc
 
-is_mapped : (scene : Scene) (row : Styled) (bs : List BoxStyle) (ms : List Measure) (place : Place) (children : Container → List (Option Region) → Mapped (List Entry)) (es : List Entry)
+pub is_mapped : (scene : Scene) (row : Styled) (bs : List BoxStyle) (ms : List Measure) (place : Place) (children : Container → List (Option Region) → Mapped (List Entry)) (es : List Entry)
     → row_entries scene row bs ms children place ≡ Ok es → IsMapped scene row place children es
 unfolding row_entries
 is_mapped scene row bs ms place children es is = mapped_row scene row place children es (barred_row scene.size row bs ms (content_size row place.region)) is
@@ -123,7 +106,7 @@ clip_within : (region by : Region) (p : Offset) → Holds (clipped region by) p 
 clip_within region by p h = shown_by region by ((common_columns region by == 0) || (common_rows region by == 0)) p h
 
 -- a list of entries shows nothing but in a region
-abbrev AreClipped : Region → Mapped (List Entry) → Type 0
+abbrev pub AreClipped : Region → Mapped (List Entry) → Type 0
 AreClipped region r = (es : List Entry) → r ≡ Ok es → All (IsClippedTo region) es
 
 both_clipped : (region : Region) (own others : Mapped (List Entry)) → AreClipped region own → AreClipped region others → AreClipped region (own >>= (λ xs. others >>= (λ ys. Ok (xs ++ ys))))
@@ -151,7 +134,7 @@ part_clipped : (region : Region) (part : Bool) (own rest others : Mapped (List E
 part_clipped region true own rest others a b c = both_clipped region own rest a b
 part_clipped region false own rest others a b c = c
 
-all_clipped : (scene : Scene) (f : Forest) (above : Container) (place : ℕ) (regions : List (Option Region)) → AreClipped above.clip (entries scene f above place regions)
+pub all_clipped : (scene : Scene) (f : Forest) (above : Container) (place : ℕ) (regions : List (Option Region)) → AreClipped above.clip (entries scene f above place regions)
 unfolding entries
 all_clipped scene Empty above place regions es is = subst (All (IsClippedTo above.clip)) (let e : [] ≡ es = cc in e) (All-nil (IsClippedTo above.clip))
 all_clipped scene (Grown row below beside) above place regions es is =

@@ -14,13 +14,13 @@ abbrev pub told : ComposeFault → Option (NodeId × Axis)
 told (Fraction node axis) = Some (node, axis)
 told NoMemory = None
 
--- what is meant was added behind a list
+-- what is meant was added after a list
 pub record IsBehind {A : Type 0} (old new : List A) (meant : Mapped (List A)) : Type 0 where
   pub added : List A
   pub all : meant ≡ Ok added
   pub behind : new ≡ old ++ added
 
--- what a call added behind a list, or why it added not all of it, is what is meant, unless memory was wanting
+-- what a call added after a list, or why it added not all of it, is what is meant, unless it ran out of memory
 abbrev pub Adds : {A R : Type 0} → List A → List A → Result R ComposeFault → Mapped (List A) → Type 0
 Adds old new (Ok done) meant = IsBehind old new meant
 Adds old new (Err fault) meant = Tells (told fault) meant

@@ -6,5 +6,8 @@ pub mod Reach
 pub mod Subtrees
 pub mod Present
 pub mod Lookup
+pub mod Nodes
 pub mod Laws
 pub mod Rows
+pub mod Ordinary
+pub mod OrdinarySheets

@@ -5,7 +5,7 @@ use Rattle.tx_geom.specs.declared.places.Offset.{Offset}
 use Rattle.tx_geom.specs.declared.places.Region.{Region}
 use Rattle.tx_map.specs.declared.places.Frame.{Frame}
 
--- a coordinate lies within so many cells before and behind
+-- a coordinate lies within so many cells before and after
 pub record IsWithin (most : ℕ) (z : ℤ) : Type 0 where
   pub low : neg_ℤ (pos most) ≤ℤ z
   pub high : z ≤ℤ pos most
@@ -24,7 +24,7 @@ pub record IsReached (depth : ℕ) (own shown : Region) : Type 0 where
   pub region : IsPlaceWithin (reach depth) (corner own)
   pub clip : IsPlaceWithin (reach depth) (corner shown)
 
--- what a row hands down stands hardly further: behind its padding and its border
+-- what a row hands down stands hardly further: after its padding and its border
 pub record IsHandedDown (frame : Frame) : Type 0 where
   pub viewport : IsPlaceWithin (reach frame.depth + 2 ^ 16) (corner frame.viewport)
   pub clip : IsPlaceWithin (reach frame.depth + 2 ^ 16) (corner frame.clip)

@@ -1,4 +1,4 @@
--- A row and the rows behind it in preorder.
+-- A row and the rows after it in preorder.
 use Rattle.std.specs.Prelude.{◌≡◌, ℕ, ◌≤◌, All, List, [], Option, Result, Ok, if◌then◌else◌}
 use Rattle.tx_geom.specs.declared.choices.Axis.{Axis}
 use Rattle.tx_geom.specs.declared.places.Region.{Region}
@@ -13,7 +13,7 @@ use Rattle.tx_sizes.specs.Forest.{Styled, Forest, depth, forest, under}
 use Rattle.tx_sizes.specs.Measures.{Pictures, boxes, is_taking_part, measures}
 use Rattle.tx_value.specs.declared.value.Value.{Value}
 
--- the rows below a row, which are among those behind it
+-- the rows below a row, which are among those after it
 abbrev pub rows_below : Styled → List Styled → Forest
 rows_below row behind = under (depth row) (forest behind)
 

@@ -116,7 +116,7 @@ fn bars_beside<L: Ledger>(
 }
 
 /// The bars of a row with a content of this size, and its children beside them. The rows are those
-/// behind it in preorder, each with the number of the rows below it.
+/// after it in preorder, each with the number of the rows below it.
 pub fn bars_of<L: Ledger>(
     alloc: Global,
     own: &StyledRow<'_>,

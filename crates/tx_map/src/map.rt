@@ -35,7 +35,7 @@ fn first_of<'a, 'b>(rows: &'b [StyledRow<'a>]) -> &'b StyledRow<'a>
     &rows[0]
 }
 
-// The rows behind the first one, and of these how many are below each.
+// The rows after the first one, and of these how many are below each.
 fn behind_first<'a, 'b, 'c>(
     rows: &'b [StyledRow<'a>],
     below: &'c [u32],
@@ -48,7 +48,7 @@ fn behind_first<'a, 'b, 'c>(
     (rows.split_at(1).1, below.split_at(1).1)
 }
 
-// The entries of the Screen, which fills the screen, and of the rows behind it.
+// The entries of the Screen, which fills the screen, and of the rows after it.
 fn entries_from<L: Ledger>(
     alloc: Global,
     own: &StyledRow<'_>,

@@ -57,7 +57,7 @@ impl Scrolls {
         self.places.get_mut(node)
     }
 
-    /// Says how far a row is scrolled, in place of what was said. Where memory is wanting, nothing
+    /// Says how far a row is scrolled, in place of what was said. Where there is no memory, nothing
     /// changes.
     pub fn insert(&mut self, node: NodeId, scroll: (u32, u32)) -> Result<(), NoMemory>
         ensures ok { OnOk result (held self.new ≡ with_at (held self.old) node.0 (Some scroll)) }

@@ -154,7 +154,7 @@ fn row_at<'a, 'b>(rows: &'b [StyledRow<'a>], at: usize) -> &'b StyledRow<'a>
     &rows[at]
 }
 
-// The rows behind the one at a place, and their counts.
+// The rows after the one at a place, and their counts.
 fn behind_at<'a, 'b, 'c>(
     rows: &'b [StyledRow<'a>],
     below: &'c [u32],
@@ -181,7 +181,7 @@ fn regions_taken(own: &StyledRow<'_>) -> usize
 }
 
 /// Adds the entry of a row at its place, and those of the rows below it, in the order of the
-/// document. The rows are those behind it, each with the number of the rows below it.
+/// document. The rows are those after it, each with the number of the rows below it.
 #[cycle(walking)]
 pub fn push_row<L: Ledger>(
     alloc: Global,
@@ -235,7 +235,7 @@ pub fn push_row<L: Ledger>(
 }
 
 // Adds the entries of the children of a container, and of the rows below them. The rows are those
-// behind the container, and the regions those of the children that take part.
+// after the container, and the regions those of the children that take part.
 #[cycle(walking)]
 fn push_children<L: Ledger>(
     alloc: Global,

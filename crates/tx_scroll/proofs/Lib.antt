@@ -1,3 +1,4 @@
 mod InOrder
 mod Ticking
 mod Regions
+mod Defined

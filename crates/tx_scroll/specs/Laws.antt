@@ -1,5 +1,5 @@
 -- What holds of the bars of a container, however its children are arranged in a viewport.
-use Rattle.std.specs.Prelude.{◌≡◌, ◌↔◌, ℕ, ◌≤◌, true, false, length, Result, Ok}
+use Rattle.std.specs.Prelude.{◌≡◌, ◌↔◌, ℕ, ◌≤◌, true, false, length, IsOk, Result, Ok}
 use Rattle.tx_geom.specs.declared.choices.Axis.{Axis}
 use Rattle.tx_geom.specs.declared.choices.Overflow.{Overflow}
 use Rattle.tx_geom.specs.declared.choices.Overflow.TheVariants.{Auto, Hidden, Scroll}
@@ -79,3 +79,8 @@ pub record IsFew (n : ℕ) : Type 0 where
 
 abbrev pub FewTrials : Type 0
 FewTrials = (arrange : Arranges) (x y : Overflow) (content : Size) → IsFew (length (made arrange x y content))
+
+-- where the children are arranged beside whatever bars, the container has its bars
+abbrev pub DefinedWhereArranged : Type 0
+DefinedWhereArranged =
+    (arrange : Arranges) (x y : Overflow) (content : Size) → ((bars : Trial) → IsOk (arrange (viewport content bars))) → IsOk (barred_by arrange x y content)

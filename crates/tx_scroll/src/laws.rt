@@ -1,7 +1,7 @@
 //! What holds of the bars of a container, however its children are arranged in a viewport: contracts
 //! of functions that do nothing. They hold of the definition that [`crate::bars`] gives the answer of.
 
-ghost use Rattle.tx_scroll.specs.Laws.{ShowsArrangement, NeverHidden, AlwaysScroll, AcrossWhereNeeded, DownWhereNeeded, VerticalFirst, NothingUnreached, FewTrials};
+ghost use Rattle.tx_scroll.specs.Laws.{ShowsArrangement, NeverHidden, AlwaysScroll, AcrossWhereNeeded, DownWhereNeeded, VerticalFirst, NothingUnreached, FewTrials, DefinedWhereArranged};
 
 /// What is shown is the arrangement in the viewport that the shown bars leave of the content area.
 pub fn shows_the_arrangement_beside_the_bars()
@@ -40,4 +40,9 @@ pub fn nothing_goes_over_without_a_bar()
 /// At least one trial is made, and at most four.
 pub fn few_trials_are_made()
     ensures { FewTrials }
+{}
+
+/// A container has its bars where its children are arranged beside whatever bars.
+pub fn defined_where_arranged()
+    ensures { DefinedWhereArranged }
 {}

@@ -1,5 +1,5 @@
 -- How many rows are below each row, and the children of a row by these counts.
-use Rattle.std.proofs.Common.{◌≡◌, ℕ, zero, suc, ◌+◌, ◌-◌, ◌<◌, ◌≤◌, Bool, true, false, cond, List, [], ◌∷◌, length, drop, get_or, set, take, ◌∙◌, refl, sym, ap, drop-cons, arith}
+use Rattle.std.proofs.Common.{◌≡◌, ℕ, suc, ◌+◌, ◌-◌, ◌<◌, ◌≤◌, true, false, List, ◌∷◌, length, drop, get_or, set, take, ◌∙◌, refl, sym, ap, drop-cons, arith}
 use Rattle.std.proofs.lemmas.Bool.{ltb-true}
 use Rattle.std.proofs.lemmas.List.{drop-drop, drop-set, length-drop, take_all}
 use Rattle.std.proofs.lemmas.List.Sums.{prefix_len-le-length}
@@ -8,35 +8,7 @@ use Rattle.std.specs.List.{prefix_len}
 use Rattle.std.specs.Prelude.{nat_lt, slice_index}
 use Rattle.tx_sizes.specs.Counts.{counts, is_deeper}
 use Rattle.tx_sizes.specs.Forest.{Styled, depth}
-use Rattle.tx_sizes.proofs.Forests.{deeper_too}
-
-pub length-counts : (rows : List Styled) → length (counts rows) ≡ length rows
-unfolding counts
-length-counts [] = refl
-length-counts (row ∷ rows) = ap suc (length-counts rows)
-
-pub counts-drop : (n : ℕ) (rows : List Styled) → counts (drop n rows) ≡ drop n (counts rows)
-unfolding counts
-counts-drop zero rows = refl
-counts-drop (suc n) [] = refl
-counts-drop (suc n) (row ∷ rows) = counts-drop n rows
-
--- ---- counts of counts
-
-longer : (d e : ℕ) → d ≤ e → (row : Styled) (rows : List Styled)
-    → prefix_len (is_deeper d) rows ≡ prefix_len (is_deeper e) rows + prefix_len (is_deeper d) (drop (prefix_len (is_deeper e) rows) rows)
-    → (deep : Bool) → nat_lt e (depth row) ≡ deep
-    → prefix_len (is_deeper d) (row ∷ rows) ≡ cond deep (1 + prefix_len (is_deeper e) rows) 0 + prefix_len (is_deeper d) (drop (cond deep (1 + prefix_len (is_deeper e) rows) 0) (row ∷ rows))
-longer d e h row rows same true is =
-    let next : 1 + prefix_len (is_deeper e) rows ≡ suc (prefix_len (is_deeper e) rows) = omega arith in
-    rw (deeper_too d e (depth row) h is, next) (omega (arith, same))
-longer d e h row rows same false is = omega arith
-
--- the rows deeper than a depth are those deeper than a greater one, and then those behind these
-pub prefix-deeper : (d e : ℕ) → d ≤ e → (rows : List Styled)
-    → prefix_len (is_deeper d) rows ≡ prefix_len (is_deeper e) rows + prefix_len (is_deeper d) (drop (prefix_len (is_deeper e) rows) rows)
-prefix-deeper d e h [] = refl
-prefix-deeper d e h (row ∷ rows) = longer d e h row rows (prefix-deeper d e h rows) (nat_lt e (depth row)) refl
+use Rattle.tx_sizes.proofs.lemmas.RowsBelow.{counts-drop, length-counts, prefix-deeper}
 
 -- ---- one child
 

@@ -1,31 +1,16 @@
 -- What is below a row, and what stands beside it.
-use Rattle.std.proofs.Common.{◌≡◌, ℕ, suc, ◌+◌, ◌<◌, ◌≤◌, Bool, true, false, cond, List, [], ◌∷◌, ◌++◌, drop, ◌∙◌, refl, sym, ap, append_assoc, arith}
-use Rattle.std.proofs.lemmas.Bool.{le-ltb, lt-ltb, ltb-true, ltb-false}
+use Rattle.std.proofs.Common.{◌≡◌, ℕ, ◌+◌, ◌<◌, ◌≤◌, Bool, true, false, cond, List, [], ◌∷◌, ◌++◌, ◌∙◌, refl, sym, ap, append_assoc, arith}
+use Rattle.std.proofs.lemmas.Bool.{le-ltb, lt-ltb, ltb-false}
 use Rattle.std.proofs.lemmas.List.Elements.{All-tail, All-head}
-use Rattle.std.specs.List.{prefix_len}
 use Rattle.std.specs.Prelude.{nat_lt}
-use Rattle.tx_sizes.specs.Counts.{is_deeper}
 use Rattle.tx_sizes.specs.Forest.{Styled, Forest, Empty, Grown, depth, under, behind, forest, preorder}
 use Rattle.tx_sizes.specs.Laws.{AreDeeper, BeginsBeside, KeepsRows, SubtreesStandAlone}
-
-pub deeper_too : (d e n : ℕ) → d ≤ e → nat_lt e n ≡ true → nat_lt d n ≡ true
-deeper_too d e n h is = let less : e < n = ltb-true e n is in lt-ltb d n (omega arith)
+use Rattle.tx_sizes.proofs.lemmas.RowsBelow.{behind-behind}
 
 beside_too : (d e n : ℕ) → d ≤ e → nat_lt d n ≡ false → nat_lt e n ≡ false
 beside_too d e n h is = let least : n ≤ d = ltb-false d n is in le-ltb e n (omega arith)
 
 -- ---- one cut behind another
-
-again-behind : (d e : ℕ) → d ≤ e → (row : Styled) (below beside : Forest) → behind d (behind e beside) ≡ behind d beside
-    → (deep : Bool) → nat_lt e (depth row) ≡ deep → behind d (cond deep (behind e beside) (Grown row below beside)) ≡ behind d (Grown row below beside)
-again-behind d e h row below beside same true is = rw (deeper_too d e (depth row) h is) same
-again-behind d e h row below beside same false is = refl
-
--- what stands beside a shallower row stands beside what stands beside a deeper one
-pub behind-behind : (d e : ℕ) → d ≤ e → (f : Forest) → behind d (behind e f) ≡ behind d f
-behind-behind d e h Empty = refl
-behind-behind d e h (Grown row below beside) =
-    again-behind d e h row below beside (behind-behind d e h beside) (nat_lt e (depth row)) refl
 
 again-under : (d e : ℕ) → d ≤ e → (row : Styled) (below beside : Forest) → under e (under d beside) ≡ under e beside
     → (deep : Bool) → nat_lt d (depth row) ≡ deep → under e (cond deep (Grown row below (under d beside)) Empty) ≡ under e (Grown row below beside)
@@ -104,20 +89,3 @@ pub keeps_rows : KeepsRows
 unfolding forest
 keeps_rows [] = refl
 keeps_rows (row ∷ rows) = ap (λ others. row ∷ others) (rejoined (depth row) (forest rows) ∙ keeps_rows rows)
-
--- ---- by counts
-
-skipped : (d : ℕ) (row : Styled) (rows : List Styled) → behind d (forest rows) ≡ forest (drop (prefix_len (is_deeper d) rows) rows)
-    → (deep : Bool) → nat_lt d (depth row) ≡ deep
-    → cond deep (behind d (behind (depth row) (forest rows))) (forest (row ∷ rows)) ≡ forest (drop (cond deep (1 + prefix_len (is_deeper d) rows) 0) (row ∷ rows))
-skipped d row rows same true is =
-    let less : d < depth row = ltb-true d (depth row) is in
-    let next : 1 + prefix_len (is_deeper d) rows ≡ suc (prefix_len (is_deeper d) rows) = omega arith in
-    rw next (behind-behind d (depth row) (omega arith) (forest rows) ∙ same)
-skipped d row rows same false is = refl
-
--- what stands beside the deeper rows in front is what is made of the rows behind them
-pub behind-count : (d : ℕ) (rows : List Styled) → behind d (forest rows) ≡ forest (drop (prefix_len (is_deeper d) rows) rows)
-unfolding forest
-behind-count d [] = refl
-behind-count d (row ∷ rows) = skipped d row rows (behind-count d rows) (nat_lt d (depth row)) refl

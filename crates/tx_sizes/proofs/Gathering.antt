@@ -12,7 +12,7 @@ use Rattle.tx_sizes.specs.Counts.{AreChildren}
 use Rattle.tx_sizes.specs.Forest.{Styled, Forest, Empty, Grown, depth, under, behind, forest}
 use Rattle.tx_sizes.specs.Measures.{Measure, Pictures, boxes, first_measure, is_taking_part, measures, row_measure}
 use Rattle.tx_sizes.proofs.Counting.{Child}
-use Rattle.tx_sizes.proofs.Forests.{behind-count}
+use Rattle.tx_sizes.proofs.lemmas.RowsBelow.{behind-count}
 use Rattle.tx_value.specs.declared.value.Value.{Value}
 
 -- the rows beside each other from a place on

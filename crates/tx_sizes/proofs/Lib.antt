@@ -1,3 +1,4 @@
+pub mod lemmas
 mod Forests
 mod Counting
 mod Gathering
@@ -5,3 +6,4 @@ mod Numbers
 mod Deciding
 mod Answering
 mod Styling
+mod Ordinary

@@ -11,12 +11,12 @@ use Rattle.tx_value.specs.declared.value.Value.{Value}
 abbrev pub is_deeper : ℕ → Styled → Bool
 is_deeper least row = nat_lt least (depth row)
 
--- how many of the rows directly behind each one are below it
+-- how many of the rows directly after each one are below it
 unfoldable pub counts : List Styled → List ℕ
 counts [] = []
 counts (row ∷ rows) = prefix_len (is_deeper (depth row)) rows ∷ counts rows
 
--- what is gathered of the children that take part, in a container of this style and depth with these rows behind it: their boxes, and
+-- what is gathered of the children that take part, in a container of this style and depth with these rows after it: their boxes, and
 -- where among these rows each begins
 pub record AreChildren (container : List Value) (least : ℕ) (rows : List Styled) (styles : List BoxStyle) (starts : List ℕ) : Type 0 where
   pub boxes : styles ≡ boxes container (under least (forest rows))

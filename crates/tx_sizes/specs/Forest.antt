@@ -39,7 +39,7 @@ abbrev pub behind : ℕ → Forest → Forest
 behind least Empty = Empty
 behind least (Grown row below beside) = if nat_lt least (depth row) then behind least beside else Grown row below beside
 
--- Rows in preorder: below a row stand the deeper ones directly behind it.
+-- Rows in preorder: below a row stand the deeper ones directly after it.
 unfoldable pub forest : List Styled → Forest
 forest [] = Empty
 forest (row ∷ rows) = Grown row (under (depth row) (forest rows)) (behind (depth row) (forest rows))

@@ -21,14 +21,14 @@ SamePictures pictures others rows = All (λ row. picture_of pictures row.row ≡
 abbrev pub KeepsRows : Type 0
 KeepsRows = (rows : List Styled) → preorder (forest rows) ≡ rows
 
--- Below a row stand the deeper ones directly behind it, and nothing else; the others stand beside it.
+-- Below a row stand the deeper ones directly after it, and nothing else; the others stand beside it.
 abbrev pub SubtreesStandAlone : Type 0
 SubtreesStandAlone =
     (row : Styled) (below after : List Styled) → AreDeeper (depth row) below → BeginsBeside (depth row) after
     → forest (row ∷ (below ++ after)) ≡ Grown row (forest below) (forest after)
 
 -- What a row measures depends on nothing but the width and the area that are asked for, the screen, and the row and the rows
--- below it with their styles and the pictures of those that are handed in: whatever stands behind these rows and whatever pictures
+-- below it with their styles and the pictures of those that are handed in: whatever stands after these rows and whatever pictures
 -- the other nodes have, it is the same.
 abbrev pub SubtreesDecide : Type 0
 SubtreesDecide =

@@ -2,3 +2,4 @@ pub mod Forest
 pub mod Measures
 pub mod Counts
 pub mod Laws
+pub mod Ordinary

@@ -16,11 +16,11 @@ use tx_value::Style;
 #[derive(Drop)]
 pub struct Children {
     pub styles: Vec<BoxStyle>,
-    /// Where each of them stands among the rows behind the one that they are children of.
+    /// Where each of them stands among the rows after the one that they are children of.
     pub starts: Vec<u32>,
 }
 
-/// The children of a row of this style and depth that are displayed. The rows are those behind it in
+/// The children of a row of this style and depth that are displayed. The rows are those after it in
 /// preorder, each with the number of the rows below it. It takes no longer than there are children.
 pub fn children_of(
     alloc: Global,

@@ -24,7 +24,7 @@ pub fn count_deeper(rows: &[StyledRow<'_>], below: &[u32], depth: u32) -> u32
     count as u32
 }
 
-/// How many of the rows directly behind each row are below it, in preorder.
+/// How many of the rows directly after each row are below it, in preorder.
 pub fn counts_below(alloc: Global, rows: &[StyledRow<'_>]) -> Result<Vec<u32>, NoMemory>
     requires { length rows.now ≤ 65536 }
     ensures { IfOk result (λ below. below.items ≡ counts rows.now) }

@@ -28,7 +28,7 @@ fn is_handed(kind: &Kind) -> bool
     matches!(kind, Kind::Handed(_))
 }
 
-// The rows that a text wants at a width. One of 2^32 bytes or more counts as want of memory.
+// The rows that a text wants at a width. One of 2^32 bytes or more counts as out of memory.
 fn own_height(alloc: Global, row: &Row, width: u32) -> Result<u32, NoMemory>
     requires leaf { holds_children row.now.kind ≡ false }
     requires built_in { is_handed row.now.kind ≡ false }
@@ -70,7 +70,7 @@ fn counts_from(below: &[u32], at: usize) -> &[u32]
     &below[at..]
 }
 
-// The first row, the rows behind it, and their counts.
+// The first row, the rows after it, and their counts.
 fn split_first<'a, 'b>(
     rows: &'b [StyledRow<'a>],
     below: &'b [u32],
@@ -103,7 +103,7 @@ pub fn rows_from<'a, 'b>(
 /// What the first row measures: without a width the width of its content in an area, and with one
 /// its height at that width.
 ///
-/// The rows are a row and the rows behind it in preorder, each with the number of the rows below it.
+/// The rows are a row and the rows after it in preorder, each with the number of the rows below it.
 /// A container asks its children that are displayed, and these theirs; other rows go by their text.
 /// A handed-in row without an object measures 0. The measure is refused exactly where a fraction on
 /// the way is, and where there is no memory.

@@ -1,4 +1,4 @@
-use Rattle.std.proofs.Common.{◌≡◌, drop, [], ℕ, length, All, Option}
+use Rattle.std.proofs.Common.{◌≡◌, drop, take, [], ℕ, length, All, Option}
 use Rattle.tx_layout.specs.declared.styles.Ask.{Ask}
 use Rattle.tx_layout.specs.Ask.{Means}
 use Rattle.tx_layout.specs.Children.{IsChild}
@@ -10,7 +10,8 @@ use Rattle.tx_layout.proofs.sides.across.Given as goal
 abbrev pub invariant-loop-child : goal.invariant-loop-child
 invariant-loop-child g l = record {
   done : (meaning : Ask → Option ℕ) → Means (goal.F-post g l.measure) l.setting.count meaning
-      → prefixed [] (each_of (across_one meaning l.axis l.setting.basis) l.initial.children) ≡ prefixed l.sized.items (each_of (across_one meaning l.axis l.setting.basis) (drop l.child-index l.children));
-  children : All (IsChild l.setting.count) l.sized.items;
-  count : length l.sized.items ≡ l.child-index;
+      → prefixed [] (each_of (across_one meaning l.axis l.setting.basis) l.initial.children)
+      ≡ prefixed (take l.child-index l.children) (each_of (across_one meaning l.axis l.setting.basis) (drop l.child-index l.children));
+  children : All (IsChild l.setting.count) l.children;
+  count : length l.children ≡ length l.initial.children;
 }

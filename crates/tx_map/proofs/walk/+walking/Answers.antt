@@ -11,7 +11,8 @@ use Rattle.tx_map.specs.declared.entry.Entry.{Entry}
 use Rattle.tx_map.specs.declared.fault.ComposeFault.{ComposeFault}
 use Rattle.tx_map.specs.declared.places.Frame.{Frame}
 use Rattle.tx_map.proofs.Adding.{child_part, entry_made, frame_made, row_done, row_size, same_place, without_bars}
-use Rattle.tx_map.proofs.Rows.{child_at, ends_all, ends_here, length_counts}
+use Rattle.tx_map.proofs.Rows.{child_at, ends_all, ends_here}
+use Rattle.tx_sizes.proofs.lemmas.RowsBelow.{length-counts}
 use Rattle.tx_map.proofs.Ticking.{arranged_both, arranged_more}
 use Rattle.tx_map.proofs.Walking.{gone_all, gone_next, gone_refused, gone_refused_ticks}
 use Rattle.tx_look.specs.Layers.{layer_number}
@@ -50,7 +51,7 @@ push_children-returns-then-depth-frame-clause-exact g t c =
     gone_all c.loop-at.invariant (ends_here c.args.rows.now c.row_at-row.result.now c.loop-at-test.true c.row_at-row.ensures.is (omega (arith, c.if-depth-frame.true, c.depth.ensures)))
 
 pub push_children-bounds-below-at : goal.push_children-bounds-below-at
-push_children-bounds-below-at g t c = omega (arith, ap length c.requires.below, length_counts c.args.rows.now, c.loop-at-test.true)
+push_children-bounds-below-at g t c = omega (arith, ap length c.requires.below, length-counts c.args.rows.now, c.loop-at-test.true)
 
 pub push_children-returns-in-Err-clause-exact : goal.push_children-returns-in-Err-clause-exact
 push_children-returns-in-Err-clause-exact g t c =

@@ -4,7 +4,8 @@ use Rattle.std.proofs.lemmas.List.Elements.{All-push}
 use Rattle.tx_layout.specs.Style.{IsBoxStyle}
 use Rattle.tx_look.specs.Boxes.{box_style}
 use Rattle.tx_sizes.specs.Forest.{depth}
-use Rattle.tx_sizes.proofs.Counting.{child_at, length-counts}
+use Rattle.tx_sizes.proofs.Counting.{child_at}
+use Rattle.tx_sizes.proofs.lemmas.RowsBelow.{length-counts}
 use Rattle.tx_sizes.proofs.Gathering.{gathered_all, gathered_here, gathered_one, gathered_out}
 use Rattle.tx_sizes.proofs.children.children_of.Goals as goal
 

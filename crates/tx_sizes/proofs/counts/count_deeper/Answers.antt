@@ -2,7 +2,8 @@ use Rattle.std.proofs.Common.{◌≡◌, ◌<◌, length, true, ap, arith}
 use Rattle.std.proofs.lemmas.Bool.{lt-ltb}
 use Rattle.std.specs.Prelude.{nat_lt}
 use Rattle.tx_sizes.specs.Forest.{depth}
-use Rattle.tx_sizes.proofs.Counting.{child_at, counted_next, length-counts}
+use Rattle.tx_sizes.proofs.Counting.{child_at, counted_next}
+use Rattle.tx_sizes.proofs.lemmas.RowsBelow.{length-counts}
 use Rattle.tx_sizes.proofs.counts.count_deeper.Goals as goal
 
 pub bounds-below-count : goal.bounds-below-count

@@ -1,5 +1,6 @@
 use Rattle.std.proofs.Common.{length, ap, arith}
-use Rattle.tx_sizes.proofs.Counting.{counts_rest, length-counts}
+use Rattle.tx_sizes.proofs.Counting.{counts_rest}
+use Rattle.tx_sizes.proofs.lemmas.RowsBelow.{length-counts}
 use Rattle.tx_sizes.proofs.measures.split_first.Goals as goal
 
 pub counts_from-requires : goal.counts_from-requires

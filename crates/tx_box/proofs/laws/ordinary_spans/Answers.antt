@@ -1,0 +1,10 @@
+use Rattle.tx_box.proofs.ShortSpans.{ordinary_spans}
+use Rattle.tx_box.proofs.laws.ordinary_spans.Goals as goal
+
+pub returns : goal.returns
+returns c =
+    ordinary_spans
+    (record {
+      known = record { forms = c.one_form.ensures; sums = c.sums_over_one.ensures; products = c.products_over_two.ensures };
+      defined = c.defined_in_range.ensures;
+    })
