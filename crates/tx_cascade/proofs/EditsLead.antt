@@ -18,7 +18,7 @@ use Rattle.tx_cascade.specs.EditLaws.{NoEditLeads, ChangesOfRowsLead, ChangesOfS
 use Rattle.tx_cascade.specs.Edits.{is_node, is_end, names_class, names_content, names_inline, names_disabled, names_focus, names_pointed, comes_before, RowLeads, RowsLead, EndsNamed, StateLeads, Leads}
 use Rattle.tx_cascade.specs.declared.edit.Edit.{Edit}
 use Rattle.tx_cascade.specs.declared.edit.Edit.TheVariants.{Class, Text, Inline, Disabled, State as Private_state, Focus, Pointed, Dark}
-use Rattle.tx_cascade.proofs.Parents.{row-number}
+use Rattle.tx_cascade.proofs.lemmas.Parents.{row-number}
 
 -- ---- a change of rows that keeps their numbers and depths
 

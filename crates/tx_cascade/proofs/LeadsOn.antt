@@ -13,7 +13,7 @@ use Rattle.tx_select.specs.declared.value.Pseudo.{Pseudo as State}
 use Rattle.tx_cascade.specs.EditLaws.{StayBetween, EditsLeadOn}
 use Rattle.tx_cascade.specs.Edits.{names_class, names_mounted, names_removed, names_moved, names_content, names_inline, names_disabled, names_focus, names_pointed, names_dark, comes_before, RowLeads, RowsLead, EndsNamed, StateLeads}
 use Rattle.tx_cascade.specs.declared.edit.Edit.{Edit}
-use Rattle.tx_cascade.proofs.Parents.{parent-at}
+use Rattle.tx_cascade.proofs.lemmas.Parents.{parent-at}
 
 -- ---- what both name
 

@@ -7,7 +7,6 @@ pub mod NothingNamed
 pub mod OneKey
 pub mod OneStyle
 pub mod Orders
-pub mod Parents
 pub mod Paths
 pub mod Placing
 pub mod RowCut
@@ -22,3 +21,4 @@ pub mod TreeEdits
 pub mod Values
 pub mod ValuesBelow
 pub mod Winners
+pub mod lemmas

@@ -14,7 +14,7 @@ use Rattle.tx_select.specs.declared.value.Pseudo.{Pseudo as State}
 use Rattle.tx_cascade.specs.Edits.{names_focus, names_pointed, RowLeads, RowsLead, EndsNamed, StateLeads}
 use Rattle.tx_cascade.specs.TreeEditLaws.{AreAlike, HaveSameRows, NothingNamed}
 use Rattle.tx_cascade.specs.declared.edit.Edit.{Edit}
-use Rattle.tx_cascade.proofs.Parents.{parent-at, row-number}
+use Rattle.tx_cascade.proofs.lemmas.Parents.{parent-at, row-number}
 use Rattle.tx_cascade.proofs.RowParts.{Climbs, tree-climbs, parent-is, parent-none, parent-depth}
 
 -- ---- every row but the first has a parent

@@ -12,7 +12,7 @@ use Rattle.tx_cascade.specs.Cascade.{style_below, styled, up_from, IsStyleOf}
 use Rattle.tx_cascade.specs.Matchers.{Matcher, matchers_of}
 use Rattle.tx_cascade.specs.Reaching.{reaching}
 use Rattle.tx_cascade.proofs.Matching.{matchers-agree}
-use Rattle.tx_cascade.proofs.Parents.{the-row, no-row, parent-at, up-row, up-top}
+use Rattle.tx_cascade.proofs.lemmas.Parents.{the-row, no-row, parent-at, up-row, up-top}
 
 module _ (rows : List Row) (once : (n : ℕ) → count_of n rows ≤ 1) where
   -- the rows from a row up, where a parent was answered

@@ -17,19 +17,10 @@ use Rattle.tx_cascade.specs.Cascade.{styled, up_from, IsStyleOf}
 use Rattle.tx_cascade.specs.Styles.{styles_within, all_styles, ParentIsStyled, StandsAt, ArePlaced}
 use Rattle.tx_cascade.specs.Matchers.{matchers_of}
 use Rattle.tx_cascade.proofs.Paths.{is-style}
-use Rattle.tx_cascade.proofs.Parents.{the-row, parent-before, parent-at, row-among}
-
-pub some-same : {A : Type 0} (a b : A) → Some a ≡ Some b → a ≡ b
-some-same a b is = cc
+use Rattle.tx_select.proofs.lemmas.Ancestry.{row-among}
+use Rattle.tx_cascade.proofs.lemmas.Parents.{the-row, parent-before, parent-at, some-same, none-before}
 
 -- ---- rows behind others
-
-count-first : (row : Row) (rest : List Row) → count_of (number row) (row ∷ rest) ≡ 1 + count_of (number row) rest
-count-first row rest = let own : has_number (number row) row ≡ true = eq-eqb (number row) (number row) refl in rw own refl
-
-pub none-before : (rows : List Row) → ((n : ℕ) → count_of n rows ≤ 1) → (done rest : List Row) (row : Row) → done ++ (row ∷ rest) ≡ rows → count_of (number row) done ≡ 0
-none-before rows once done rest row whole =
-    omega (arith, once (number row), ap (count_of (number row)) whole, count_of-append (number row) done (row ∷ rest), count-first row rest)
 
 before-row : (done rest : List Row) (row : Row) → count_of (number row) done ≡ 0 → before_of (number row) (done ++ (row ∷ rest)) ≡ done
 before-row [] rest row none = let own : has_number (number row) row ≡ true = eq-eqb (number row) (number row) refl in rw own refl

@@ -23,7 +23,8 @@ use Rattle.tx_cascade.specs.TreeEditLaws.{IsBelow, ChangesOfTreesLead, TreeEdits
 use Rattle.tx_cascade.specs.declared.edit.Edit.{Edit}
 use Rattle.tx_cascade.specs.declared.edit.Edit.TheVariants.{Mounted, Removed, Moved}
 use Rattle.tx_cascade.proofs.EditsLead.{state-stays, row-stays}
-use Rattle.tx_cascade.proofs.Parents.{before-among, counted, parent-before, parent-at, row-number}
+use Rattle.tx_select.proofs.lemmas.Ancestry.{before-among, counted}
+use Rattle.tx_cascade.proofs.lemmas.Parents.{parent-before, parent-at, row-number}
 use Rattle.tx_cascade.proofs.RowCut.{Cut, cut, split-whole}
 use Rattle.tx_cascade.proofs.RowParts.{Climbs, AreAsDeep, climbs-more, tree-climbs, join-climbs, from-climbs, depth-at, none-at, above-append, above-deep, parent-is, parent-none, parent-depth}
 use Rattle.tx_cascade.proofs.RowsAmong.{same-at, same-parent, same-order, counted-at, behind-at, at-within, order-within, parent-within, parent-first}

@@ -30,7 +30,7 @@ use Rattle.tx_cascade.proofs.Greatest.{itself, turned, fold-greatest}
 use Rattle.tx_cascade.proofs.Lists.{in-filter, of-filter, the-greatest, greatest-of}
 use Rattle.tx_cascade.proofs.OneKey.{at-most-one}
 use Rattle.tx_cascade.proofs.OneStyle.{one-matcher}
-use Rattle.tx_cascade.proofs.Parents.{parent-at, row-number}
+use Rattle.tx_cascade.proofs.lemmas.Parents.{parent-at, row-number}
 use Rattle.tx_cascade.proofs.Winners.{in-style}
 
 abbrev parts : Reached → List ℕ

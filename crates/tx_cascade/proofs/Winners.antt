@@ -19,7 +19,7 @@ use Rattle.tx_cascade.specs.declared.reaching.Reached.{Reached}
 use Rattle.tx_cascade.proofs.Greatest.{itself, turned}
 use Rattle.tx_cascade.proofs.Lists.{in-filter, of-filter, the-greatest}
 use Rattle.tx_cascade.proofs.OneStyle.{one-matcher}
-use Rattle.tx_cascade.proofs.Parents.{row-number}
+use Rattle.tx_cascade.proofs.lemmas.Parents.{row-number}
 
 abbrev parts : Reached → List ℕ
 parts one = key_parts one.key

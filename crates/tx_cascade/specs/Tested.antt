@@ -4,7 +4,7 @@ use Rattle.std.specs.List.{FoldsTo}
 use Rattle.tx_io.specs.declared.steps.Tick.{Tick}
 use Rattle.tx_io.specs.declared.steps.Tick.TheVariants.{Test}
 
--- a ledger was told of tests, at most so many, and of nothing else
+-- tests were reported to a ledger, at most so many, and nothing else
 pub record TestedAtMost {L : Type 0} (ticked : L → Tick → L → Type 0) (most : ℕ) (before after : L) : Type 0 where
   pub tests : ℕ
   pub few : tests ≤ most

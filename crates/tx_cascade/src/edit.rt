@@ -4,7 +4,7 @@ use tx_text::Name;
 use tx_tree::NodeId;
 
 /// A part of a scene that changed: of the tree, of what pseudo-classes are judged by, or of what is
-/// shown.
+/// shown. It names what changed and not what it is now.
 #[derive(Clone, Copy, Debug)]
 pub enum Edit {
     /// A class of a row came or went.
@@ -35,20 +35,20 @@ pub enum Edit {
     Disabled(NodeId),
     /// A row has another text or private state by its own reaction.
     State(NodeId),
-    /// A row is scrolled to another place.
+    /// A row is scrolled to another place. No style depends on it.
     Scrolled(NodeId),
-    /// The focus left the one row and came to the other.
+    /// The focus left the one row, if one had it, and came to the other, if one has it.
     Focus {
         from: Option<NodeId>,
         to: Option<NodeId>,
     },
-    /// The pointer left the one row and came to the other.
+    /// The pointer left the one row and came to the other, as far as there are such rows.
     Pointed {
         from: Option<NodeId>,
         to: Option<NodeId>,
     },
     /// The theme became dark or light.
     Dark,
-    /// The screen has another size.
+    /// The screen has another size. No style depends on it.
     Resized,
 }

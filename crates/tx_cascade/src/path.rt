@@ -72,7 +72,10 @@ fn style_at<L: Ledger>(
 /// has the initial values of both too, `$foreground` and `visible`. The marks of the parent's
 /// `text-style` are always added. An inline text outside the grammar counts as empty, and so does one
 /// of 4 GiB or more. At most one `Test` is ticked for each selector of the sheet and the default
-/// sheet at each row from this one up.
+/// sheet at each row from this one up, and nothing else. NoMemory is the only error.
+///
+/// The order is that of the CSS cascade (<https://www.w3.org/TR/css-cascade-4/#cascade-sort>) in the
+/// profile of Textual's stylesheets, except that an important declaration keeps the order of origins.
 pub fn style_of<L: Ledger>(
     alloc: Global,
     sheet: &Sheet,

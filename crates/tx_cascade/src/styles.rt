@@ -95,8 +95,9 @@ pub fn styles_of<L: Ledger>(
 }
 
 impl Styles {
-    /// The styles of all rows of a tree. At most one `Test` is ticked for each selector of the sheet
-    /// and the default sheet at each row.
+    /// The styles of all rows of a tree, each as [`crate::style_of`] gives it. At most one `Test` is
+    /// ticked for each selector of the sheet and the default sheet at each row, and nothing else.
+    /// NoMemory is the only error.
     pub fn open<L: Ledger>(
         alloc: Global,
         sheet: &Sheet,
@@ -120,7 +121,7 @@ impl Styles {
 
     /// The styles of all rows of a tree that these edits lead to, under the same sheet. Edits lead
     /// from one tree and pseudo state to another where each part in which they differ is named by one
-    /// of them. Where memory runs out, all styles are as they were. Until then the old and the new
+    /// of them. NoMemory is the only error, and all styles are then as they were. Until then the old and the new
     /// ones are both held. At most one `Test` is ticked for each selector of the sheet and the
     /// default sheet at each row.
     pub fn restyle<L: Ledger>(

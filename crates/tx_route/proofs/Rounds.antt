@@ -13,9 +13,9 @@ use Rattle.tx_tree.specs.declared.row.Row.{Row}
 use Rattle.tx_tree.proofs.lemmas.NumbersAndIds.{count_of-append}
 use Rattle.tx_widgets.specs.Frame.{FrameValue}
 use Rattle.tx_route.specs.Focus.{is_in_order, takes_focus, focus_order, row_after, step_along, steps_along}
-use Rattle.tx_route.specs.Laws.{StepsAreUndone, OrdersGoRound, GoesRound}
+use Rattle.tx_route.specs.Laws.{StepsAreUndone, StepsComeIn, OrdersGoRound, GoesRound}
 use Rattle.tx_route.proofs.Counted.{count-filter}
-use Rattle.tx_route.proofs.Steps.{node_of, last-of-two, step-none, step-counted}
+use Rattle.tx_route.proofs.Steps.{node_of, last-of-two, outside, step-none, step-counted}
 
 -- an order that is cut at a row
 pub record Cut (n : ℕ) (order front : List Row) (row : Row) (tail : List Row) : Type 0 where
@@ -259,6 +259,14 @@ order-counted frame rows n is = kept-counted (takes_focus frame rows) n rows is
 pub steps-are-undone : StepsAreUndone
 steps-are-undone frame rows differ node is back =
     undone (focus_order frame rows) (order-differs frame rows differ) back node (order-counted frame rows node.0 is)
+
+pub steps-come-in : StepsComeIn
+unfolding is_in_order
+steps-come-in frame rows differ None is = record { forwards = refl; back = refl }
+steps-come-in frame rows differ (Some node) is = record {
+  forwards = outside (takes_focus frame rows) false rows differ node is;
+  back = outside (takes_focus frame rows) true rows differ node is;
+}
 
 pub orders-go-round : OrdersGoRound
 orders-go-round frame rows differ node is back =

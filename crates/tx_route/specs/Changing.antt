@@ -10,7 +10,7 @@ use Rattle.tx_route.specs.declared.deliveries.Deliveries.{Deliveries}
 use Rattle.tx_route.specs.declared.deliveries.Why.{Why}
 use Rattle.tx_route.specs.declared.deliveries.Why.TheVariants.{NoTarget, DuplicateId as duplicate_id, TooMany as too_many, TooDeep as too_deep, Root as root, Leaf as leaf, NotSiblings as not_siblings}
 
--- Why an input is missed that a tree refuses. No tree refuses a change for a fault of a text, and want of memory isn't a miss.
+-- Why an input is missed that a tree refuses. No tree refuses a change for a fault of a text, and `NoMemory` isn't a miss.
 abbrev pub why_of : TreeFault → Option Why
 why_of (Grammar line kind) = None
 why_of NoNode = Some NoTarget

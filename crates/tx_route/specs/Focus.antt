@@ -25,7 +25,7 @@ is_in_order frame rows n = option_map_or (takes_focus frame rows) (row_at n rows
 abbrev pub focus_order : FrameValue → List Row → List Row
 focus_order frame rows = filter (takes_focus frame rows) rows
 
--- the rows of an order before a node, and those behind it: where there is no node, none
+-- the rows of an order before a node, and those after it: where there is no node, none
 abbrev pub rows_before : Option NodeId → List Row → List Row
 rows_before None order = []
 rows_before (Some node) order = before_of node.0 order
@@ -34,7 +34,7 @@ abbrev pub rows_behind : Option NodeId → List Row → List Row
 rows_behind None order = []
 rows_behind (Some node) order = drop 1 (from_of node.0 order)
 
--- The next row is the first one behind the node, or else the first of the order. The previous row is the last one before it, or
+-- The next row is the first one after the node, or else the first of the order. The previous row is the last one before it, or
 -- else the last of the order.
 abbrev pub next_row : Option NodeId → List Row → Option Row
 next_row node order = option_or (first_row (rows_behind node order)) (first_row order)

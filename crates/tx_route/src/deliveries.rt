@@ -17,31 +17,32 @@ pub enum Why {
     NotShown,
     /// Another row of the tree has the new row's id.
     DuplicateId,
-    /// As many nodes were made as a tree ever makes.
+    /// 65,536 nodes were made, which is as many as a tree ever makes.
     TooMany,
-    /// The new row would be deeper than the deepest row that a tree has.
+    /// The new row would be 64 deep, and the deepest row of a tree is 63 deep.
     TooDeep,
     /// The Screen can't be removed.
     Root,
-    /// A row of this kind has no children, or the Screen can't be a child.
+    /// The row that is meant is of a kind that has no children, or the new row is a Screen.
     Leaf,
-    /// The two rows aren't two children of one row.
+    /// The two rows aren't two children of one row, or they are one row.
     NotSiblings,
-    /// No object was handed in under the name of the new row's kind.
+    /// No object was handed in under the name of the new row's kind. [`crate::route`] never tells it.
     NoCustom,
-    /// A row has or had the object that was handed in under that name.
+    /// A row has or had the object that was handed in under that name. [`crate::route`] never tells it.
     CustomTaken,
 }
 
-/// What an input comes to: where it is missed, why, and nothing else.
+/// What an input comes to. Where it is missed, all other fields are None.
 #[derive(Clone, Copy, Debug, PartialEq, Eq)]
 pub struct Deliveries {
+    /// Why the input is missed, where it is.
     pub missed: Option<Why>,
     /// The row that is now pointed at. None is for no change.
     pub pointed: Option<NodeId>,
     /// A row, and an action that is applied with it as the node.
     pub action: Option<(NodeId, Action)>,
-    /// A row, and a message for its mailbox.
+    /// A row, and a message for its mailbox: a key, a click, or work that is done.
     pub put: Option<(NodeId, Message)>,
     /// The first row that the input's selector matches.
     pub target: Option<NodeId>,

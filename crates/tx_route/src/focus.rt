@@ -101,7 +101,7 @@ fn last_before<S: Sight>(tree: &Tree, sight: &S, node: NodeId) -> Option<NodeId>
     last_between(tree, sight, Some(tree.root()), Some(here))
 }
 
-/// The row behind a node, or else the first.
+/// The row after a node, or else the first.
 fn next_row<S: Sight>(tree: &Tree, sight: &S, node: NodeId) -> Option<NodeId>
     requires { is_in_order (S.frame sight.now) tree.now.rows node.0 ≡ true }
     ensures { result ≡ step_along false (focus_order (S.frame sight.now) tree.now.rows) (Some node) }

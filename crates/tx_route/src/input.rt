@@ -9,23 +9,23 @@ use tx_tree::{Key, NewRow};
 
 /// What comes from outside: a key, a place or a row that is pointed at, or a change.
 ///
-/// A selector in it means the first row in document order that it matches. Places are counted in
-/// cells of the screen, from 0.
+/// A selector in it means the first row in document order that it matches. A place is the column `x`
+/// and the row `y` of a cell, counted from 0 at the upper left corner of the screen.
 #[derive(Debug, Drop)]
 pub enum Input {
     /// A key is pressed.
     Press(Key),
-    /// A place is clicked at.
+    /// The cell at a place is clicked.
     ClickAt { x: u32, y: u32 },
-    /// A row is clicked at.
+    /// A row is clicked, at its spot in the frame.
     Click(Selector),
     /// The pointer moves to a place.
     HoverAt { x: u32, y: u32 },
-    /// The pointer moves to a row.
+    /// The pointer moves to a row's spot in the frame.
     Hover(Selector),
     /// Nothing changes.
     Pause,
-    /// The screen has another size.
+    /// The screen has another size, in cells.
     Resize(Size),
     /// A row gets a class.
     AddClass { target: Selector, name: Name },
@@ -33,7 +33,7 @@ pub enum Input {
     RemoveClass { target: Selector, name: Name },
     /// A row gets another text.
     SetText { target: Selector, text: Text },
-    /// A row gets other declarations of its own.
+    /// A row gets another inline text: declarations of its own.
     SetInline { target: Selector, text: Text },
     /// A row is disabled, and with it those below it.
     Disable(Selector),
@@ -45,14 +45,14 @@ pub enum Input {
     Remove(Selector),
     /// A row is moved directly before another child of its parent.
     Before { target: Selector, other: Selector },
-    /// A row is told that so much more is done.
+    /// A row is told that so much more of its work is done, in the units of a ProgressBar's total.
     Advance { target: Selector, by: u32 },
-    /// The theme is dark or light.
+    /// The theme becomes dark, for true, or light.
     Theme { dark: bool },
 }
 
 impl Input {
-    /// A second input that equals this one.
+    /// A second input that equals this one. NoMemory is the only error.
     pub fn copy(&self) -> Result<Input, NoMemory>
         ensures { IfOk result (λ input. input ≡ self.now) }
     {
@@ -103,8 +103,9 @@ impl Input {
 /// A list of inputs.
 pub type Inputs = Items<Input>;
 
-/// The inputs of one sender in their order.
+/// The inputs of one sender.
 #[derive(Debug, Drop)]
 pub struct Track {
+    /// The first input to be sent stands first.
     pub inputs: Inputs,
 }

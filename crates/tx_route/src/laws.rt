@@ -1,10 +1,16 @@
 //! What holds of the definitions, as contracts of functions that do nothing.
 
-ghost use Rattle.tx_route.specs.Laws.{DeliveriesAreOne, KeysAreTold, OrdersGoRound, StepsAreUndone};
+ghost use Rattle.tx_route.specs.Laws.{DeliveriesAreOne, KeysAreTold, OrdersGoRound, StepsAreUndone, StepsComeIn};
 
 /// Each step along the focus order from a row of it is undone by the step the other way.
 pub fn steps_are_undone()
     ensures { StepsAreUndone }
+{}
+
+/// Where no row of the focus order is focused, a step forwards leads to its first row, and a step
+/// back to its last one.
+pub fn steps_come_in()
+    ensures { StepsComeIn }
 {}
 
 /// As many steps as the focus order has rows lead from a row of it to that row again, and through

@@ -13,7 +13,7 @@ abbrev pub reversed : Pen → Pen
 reversed pen = record pen { style = record pen.style { reverse = not pen.style.reverse } }
 
 -- so many columns of these cells from a column on: halves of wide cells that are cut are blanks, and so are the columns
--- behind the last cell
+-- after the last cell
 unfoldable pub window : ℕ → ℕ → Pen → List CellValue → List CellValue
 window from width pen cells = cropped cells from (min (from + width) (length cells)) ++ blanks (width - (length cells - from)) pen
 

@@ -12,7 +12,7 @@ abbrev pub clusters_before : ℕ → List (List ℕ) → List (List ℕ)
 clusters_before at [] = []
 clusters_before at (cluster ∷ clusters) = if nat_lt at (length cluster) then [] else cluster ∷ clusters_before (at - length cluster) clusters
 
--- that cluster and those behind it: none where the offset is the end
+-- that cluster and those after it: none where the offset is the end
 abbrev pub clusters_from : ℕ → List (List ℕ) → List (List ℕ)
 clusters_from at [] = []
 clusters_from at (cluster ∷ clusters) = if nat_lt at (length cluster) then cluster ∷ clusters else clusters_from (at - length cluster) clusters
@@ -21,7 +21,7 @@ clusters_from at (cluster ∷ clusters) = if nat_lt at (length cluster) then clu
 abbrev pub cells_of_clusters : Pen → List (List ℕ) → List CellValue
 cells_of_clusters pen clusters = flat_map (cluster_columns pen) clusters
 
--- the cursor's column: the first one of the cluster in which it stands, or the one behind the text
+-- the cursor's column: the first one of the cluster in which it stands, or the one after the text
 unfoldable pub cursor_column : ℕ → Pen → List ℕ → ℕ
 cursor_column at pen text = length (cells_of_clusters pen (clusters_before at (graphemes true text)))
 
@@ -30,7 +30,7 @@ abbrev pub columns_at : Pen → List (List ℕ) → Option ℕ
 columns_at pen [] = None
 columns_at pen (cluster ∷ clusters) = Some (length (cluster_columns pen cluster))
 
--- the cursor's cluster in a pen of its own, or a blank at the end, and the clusters behind it
+-- the cursor's cluster in a pen of its own, or a blank at the end, and the clusters after it
 abbrev pub cells_from_cursor : Pen → Pen → List (List ℕ) → List CellValue
 cells_from_cursor mark pen [] = blank mark ∷ []
 cells_from_cursor mark pen (cluster ∷ clusters) = cluster_columns mark cluster ++ cells_of_clusters pen clusters

@@ -17,7 +17,7 @@ use Rattle.tx_widgets.specs.declared.drawing.face.Face.{Face}
 abbrev pub texts : List CellValue → List (List ℕ)
 texts cells = map (λ cell. cell.text) cells
 
--- all of these cells stand in a row, one behind the other, in whichever pen
+-- all of these cells stand in a row, one after the other, in whichever pen
 pub record HasAll (cells row : List CellValue) : Type 0 where
   pub before : List (List ℕ)
   pub behind : List (List ℕ)

@@ -16,7 +16,7 @@ most = 65535
 abbrev pub box_width : List ℕ → Pen → ℕ
 box_width text pen = 4 + length (line_cells (first_of (text_lines text)) pen)
 
--- the columns of an Input: those of its text as one line, and one for the cursor behind it
+-- the columns of an Input: those of its text as one line, and one for the cursor after it
 abbrev pub field_width : List ℕ → Pen → ℕ
 field_width text pen = length (line_cells text pen) + 1
 

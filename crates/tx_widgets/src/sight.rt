@@ -5,7 +5,8 @@ ghost use Rattle.std.specs.Prelude.{◌≡◌};
 use tx_geom::Region;
 use tx_tree::NodeId;
 
-/// What a frame tells of the rows that it shows.
+/// What a frame tells of the rows that it shows. Columns and rows of cells are counted from 0 at the
+/// upper left corner of the screen. No call of it takes memory.
 ///
 /// Where a cell has an owner, the owner's region holds that cell; and a row owns the cell at its
 /// spot.
@@ -15,7 +16,7 @@ pub trait Sight {
     /// What the frame tells.
     ghost frame: { Self → FrameValue };
 
-    /// The row that owns the cell in column `x` of row `y`, if one does.
+    /// The node of the row that owns the cell in column `x` and row `y`, if one does.
     fn owner(&self, x: u32, y: u32) -> Option<NodeId>
         ensures owner { result ≡ (frame self.now).owner x y };
 
@@ -23,7 +24,7 @@ pub trait Sight {
     fn spot(&self, node: NodeId) -> Option<(u32, u32)>
         ensures spot { result ≡ (frame self.now).spot node };
 
-    /// The region of this row, if it has one.
+    /// The region of this row on the screen, in cells, if it has one.
     fn region(&self, node: NodeId) -> Option<Region>
         ensures region { result ≡ (frame self.now).region node };
 

@@ -117,7 +117,7 @@ fn with_mark(
     join_three(alloc, before, mark, behind)
 }
 
-// A strip from a column on, the cursor behind it, and blanks.
+// A strip from a column on, the cursor after it, and blanks.
 fn end_row(
     alloc: Global,
     plain: &Strip,

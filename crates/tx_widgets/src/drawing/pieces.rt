@@ -22,7 +22,7 @@ pub(crate) fn reversed(pen: Pen) -> Pen
     }
 }
 
-// Two strips, one behind the other.
+// Two strips, one after the other.
 pub(crate) fn join_two(alloc: Global, first: Strip, second: Strip) -> Result<Strip, NoMemory>
     requires short { length first + length second < 2 ^ 32 }
     ensures { IfOk result (λ strip. strip ≡ first ++ second) }
@@ -33,7 +33,7 @@ pub(crate) fn join_two(alloc: Global, first: Strip, second: Strip) -> Result<Str
     join(alloc, &parts)
 }
 
-// Three strips, one behind the other.
+// Three strips, one after the other.
 pub(crate) fn join_three(
     alloc: Global,
     first: Strip,
@@ -106,7 +106,7 @@ pub(crate) fn blanks(alloc: Global, count: u32, pen: Pen) -> Result<Strip, NoMem
     copies(alloc, " ", count, pen)
 }
 
-// So many columns of a strip from a column on, with blanks behind its end.
+// So many columns of a strip from a column on, with blanks after its end.
 #[tactic(auto, unfolding(crate::specs::Columns::window))]
 pub(crate) fn window(
     alloc: Global,

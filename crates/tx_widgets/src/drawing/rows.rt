@@ -24,8 +24,8 @@ use tx_tree::{Kind, Private};
 ///
 /// The kind is not one that is handed in, and the text has fewer than 2^32 bytes. A private state
 /// that isn't of the kind's form or doesn't suit the text is drawn as the fresh one. A text that
-/// is wrapped is wrapped anew for each row: `lines` gives all rows at once. The one fault is want
-/// of memory.
+/// is wrapped is wrapped anew for each row: `lines` gives all rows at once. It fails only when
+/// out of memory.
 #[tactic(auto, unfolding(crate::specs::Drawing::drawn_row))]
 pub fn line(alloc: Global, face: &Face<'_>, y: u32) -> Result<Strip, NoMemory>
     requires built_in { is_handed face.now.kind ≡ false }

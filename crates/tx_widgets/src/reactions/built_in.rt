@@ -41,8 +41,8 @@ use tx_tree::{Action, Kind, Private};
 ///
 /// These messages stop. All others change nothing and go on. A private state that isn't of the
 /// kind's form or doesn't suit the text counts as the fresh one, which the row then has. The kind is
-/// not one that is handed in, and the text has fewer than 2^32 bytes. The one fault is that there is
-/// no memory.
+/// not one that is handed in, and the text has fewer than 2^32 bytes. Clusters are the extended
+/// grapheme clusters of UAX #29, and the cursor is a byte offset in UTF-8. NoMemory is the only error.
 #[tactic(auto, unfolding(crate::specs::Reaction::reaction))]
 pub fn react(alloc: Global, held: &Held, message: &Message) -> Result<Reaction, NoMemory>
     requires built_in { is_handed held.now.kind ≡ false }

@@ -35,7 +35,8 @@ impl Effects {
         }
     }
 
-    /// Adds an effect at the end. There are fewer than 16 before.
+    /// Adds an effect at the end. There are fewer than 16 before. NoMemory is the only error, and the
+    /// list is then as it was.
     pub fn push(&mut self, effect: Effect) -> Result<(), NoMemory>
         requires room { length self.old < 16 }
         ensures pushed { OnOk result (self.new ≡ self.old ++ effect ∷ []) }
@@ -45,7 +46,7 @@ impl Effects {
         Ok(())
     }
 
-    /// How many effects there are.
+    /// How many effects there are, from 0 to 16. It takes no memory.
     pub fn len(&self) -> u32
         ensures len { result ≡ length self.now }
         ensures few { result ≤ 16 }
@@ -61,7 +62,7 @@ impl Effects {
         self.items.truncate(len as usize);
     }
 
-    /// The effects, the first one first.
+    /// The effects, the first one first. It takes no memory.
     pub fn as_slice(&self) -> &[Effect]
         ensures effects { result.now ≡ self.now }
         ensures few { length self.now ≤ 16 }
@@ -69,7 +70,7 @@ impl Effects {
         self.items.as_slice()
     }
 
-    /// A second list that equals this one.
+    /// A second list that equals this one. NoMemory is the only error.
     pub fn copy(&self) -> Result<Effects, NoMemory>
         ensures copy { IfOk result (λ copy. copy ≡ self.now) }
     {

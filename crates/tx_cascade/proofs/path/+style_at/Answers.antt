@@ -6,7 +6,7 @@ use Rattle.tx_cascade.specs.Cascade.{up_from}
 use Rattle.tx_cascade.specs.Reaching.{selectors_in}
 use Rattle.tx_cascade.specs.Matchers.{matchers_of}
 use Rattle.tx_cascade.specs.Tested.{TestedAtMost}
-use Rattle.tx_cascade.proofs.Parents.{row-number}
+use Rattle.tx_cascade.proofs.lemmas.Parents.{row-number}
 use Rattle.tx_cascade.proofs.Paths.{up-parent, up-alone, parent-is-there, answer-below, tested-up}
 use Rattle.tx_cascade.proofs.Ticks.{untested, both-tested, more-tested}
 use Rattle.tx_cascade.proofs.path.+style_at.Goals as goal

@@ -3,7 +3,7 @@ use Rattle.tx_tree.specs.Row.{plain}
 use Rattle.tx_cascade.specs.Cascade.{up_from}
 use Rattle.tx_cascade.specs.Matchers.{matchers_of}
 use Rattle.tx_cascade.proofs.Paths.{up-parent, up-alone, answer-below}
-use Rattle.tx_cascade.proofs.StyleSteps.{some-same}
+use Rattle.tx_cascade.proofs.lemmas.Parents.{some-same}
 use Rattle.tx_cascade.proofs.styles.style_among.Goals as goal
 
 pub returns-in_default-clause-exact : goal.returns-in_default-clause-exact

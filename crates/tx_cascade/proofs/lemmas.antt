@@ -1,0 +1,2 @@
+-- The lemmas that proofs of crates above may cite.
+pub mod Parents
