@@ -256,7 +256,7 @@ comes-free expected actual acts files_before files_after before after fine comes
 planned-fine : (words : List (List ℕ)) (plan : Plan) (told : List ℕ → Option (List ℕ)) (answers : List Answer) → IsPlanned words plan
     → Accepts told (plan_of_words words) → AreOfFiles (Some told) (loads_of plan answers) → Fine (opening_of plan answers)
 planned-fine words plan told answers (inl is) accepts of_files = accepts-fine told plan answers (subst (Accepts told) (sym is) accepts) of_files
-planned-fine words plan told answers (inr unjudged) accepts of_files = subst (λ p. Fine (opening_of p answers)) (sym unjudged.0) tt
+planned-fine words plan told answers (inr unjudged) accepts of_files = subst (λ p. Fine (opening_of p answers)) (sym unjudged) tt
 
 complete-of : (contents : Option (List ℕ → Option (List ℕ))) (words : List (List ℕ)) (plan : Plan) (answers : List Answer) (actual : Opening) (acts : List Act)
     (files_before files_after before after : ℕ) (cause : Option Cause)

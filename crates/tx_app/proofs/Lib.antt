@@ -1,7 +1,11 @@
 pub mod AcceptLemmas
 pub mod CauseLemmas
+pub mod CommandLemmas
 pub mod CourseLemmas
 pub mod FormLemmas
+pub mod GivenLemmas
 pub mod PlanLemmas
 pub mod ReportLemmas
+pub mod RowLemmas
 pub mod SceneLemmas
+pub mod WalkLemmas

@@ -12,7 +12,7 @@ use Rattle.tx_app.specs.Openings.{Opening, Stops, ComesTo}
 use Rattle.tx_app.specs.Loads.{file_limit, GivesLoaded, Loads}
 use Rattle.tx_app.specs.Plan.{Plan, Misuse, Unjudged, Refuse, Read, Open, Print, Find, opening_of, loads_of, AreOfFiles, Begun, Follows}
 use Rattle.tx_app.specs.Plans.{plan_of, rows_plan, Planned}
-use Rattle.tx_app.specs.Words.{Task, asked, takes_memory}
+use Rattle.tx_app.specs.Words.{Task, asked}
 use Rattle.tx_app.specs.declared.causes.Cause.{Cause}
 use Rattle.tx_app.specs.declared.causes.Cause.TheVariants.{Usage, NoMemory}
 
@@ -130,11 +130,11 @@ pub Planned-task : (before after : FilesSeen) (words : List (List ℕ)) (task : 
     → Begun before after (plan_of task) actual → Planned words before after actual
 Planned-task before after words task actual asks b = record { plan = plan_of task; planned = inl (ap plan_of asks); reads = b }
 
--- memory was wanting for a selector
-pub Planned-unjudged : (before : FilesSeen) (words : List (List ℕ)) → takes_memory words ≡ true → Planned words before before (Stops NoMemory)
-Planned-unjudged before words takes = record {
+-- memory was wanting to judge the words
+pub Planned-unjudged : (before : FilesSeen) (words : List (List ℕ)) → Planned words before before (Stops NoMemory)
+Planned-unjudged before words = record {
   plan = Unjudged;
-  planned = inr (refl, takes);
+  planned = inr refl;
   reads = record { follows = Follows-here before Unjudged (Stops NoMemory) (record { wanting = false; is = refl; may = tt }); begins = tt };
 }
 

@@ -1,5 +1,5 @@
 -- What stands behind the statuses: risen counts, and when there is no cause but want of memory.
-use Rattle.std.specs.Prelude.{◌≡◌, ◌≤◌, ◌<◌, ◌^◌, true, ℕ, List, [], ◌∷◌, length, Option, Some, None, codes}
+use Rattle.std.specs.Prelude.{◌≡◌, ◌≤◌, ◌<◌, ◌^◌, ℕ, List, [], ◌∷◌, length, Option, Some, None, codes}
 use Rattle.tx_io.specs.Faults.{raised, Rose}
 use Rattle.tx_parse.specs.Grammar.{Found}
 use Rattle.tx_parse.specs.Texts.{IsSheetText}
@@ -8,7 +8,7 @@ use Rattle.tx_select.specs.Texts.{IsSelectorText}
 use Rattle.tx_tree.specs.TreeValue.{TreeValue}
 use Rattle.tx_tree.specs.WellFormed.{IsTree}
 use Rattle.tx_tree_file.specs.TreeFile.{IsReading}
-use Rattle.tx_app.specs.Words.{Checks, asked, is_file}
+use Rattle.tx_app.specs.Words.{Checks, asked, given}
 use Rattle.tx_app.specs.Loads.{file_limit}
 use Rattle.tx_app.specs.Plan.{Plan, Misuse, Unjudged, Refuse, Read, Open, Print, Find}
 use Rattle.tx_app.specs.Plans.{plan_of_words}
@@ -73,10 +73,11 @@ SheetsAreAccepted = (words : List (List ℕ)) (told : List ℕ → Option (List 
 -- tree, within the limit.
 pub record HoldsTree (words : List (List ℕ)) (told : List ℕ → Option (List ℕ)) : Type 0 where
   pub program : List ℕ
+  pub rest : List (List ℕ)
   pub name : List ℕ
   pub text : List ℕ
-  pub asks : words ≡ program ∷ codes "query" ∷ name ∷ text ∷ []
-  pub named : is_file name ≡ true
+  pub asks : words ≡ program ∷ codes "query" ∷ rest
+  pub gives : given [] rest ≡ Some (record { options = []; others = name ∷ text ∷ [] })
   pub selector : SelectorValue
   pub text_short : length text < 2 ^ 32
   pub selects : IsSelectorText text selector

@@ -1,4 +1,5 @@
 pub mod Causes
+pub mod CommandLine
 pub mod Course
 pub mod ErrorLine
 pub mod Faults

@@ -1,5 +1,5 @@
 -- The plan of each task.
-use Rattle.std.specs.Prelude.{◌≡◌, ◌⊎◌, true, ℕ, ◌+◌, List, ◌++◌, length, Option, Some, None, Result, Ok, Err, codes, decimal}
+use Rattle.std.specs.Prelude.{◌≡◌, ◌⊎◌, ℕ, ◌+◌, List, ◌++◌, length, Option, Some, None, Result, Ok, Err, codes, decimal}
 use Rattle.tx_parse.specs.Grammar.{Found}
 use Rattle.tx_parse.specs.Places.{line_of, column_of}
 use Rattle.tx_parse.specs.Texts.{Report, sheet_of}
@@ -7,7 +7,7 @@ use Rattle.tx_tree.specs.declared.row.Row.{Row}
 use Rattle.tx_tree_file.specs.TreeReading.{tree_of}
 use Rattle.tx_select.specs.SelectorValue.{SelectorValue}
 use Rattle.tx_geom.specs.declared.places.Size.{Size}
-use Rattle.tx_app.specs.Words.{Task, Shows, Checks, Queries, asked, takes_memory}
+use Rattle.tx_app.specs.Words.{Task, Shows, Checks, Queries, asked}
 use Rattle.tx_app.specs.TreeForm.{Fault, rows_or_fault, texts_of, unbuilt}
 use Rattle.tx_app.specs.SheetForm.{looks_of}
 use Rattle.tx_app.specs.Scene.{first_misfit, scene_of}
@@ -83,9 +83,9 @@ plan_of (Some task) = task_plan task
 abbrev pub plan_of_words : List (List ℕ) → Plan
 plan_of_words words = plan_of (asked words)
 
--- the plan that is followed: that of the words, or memory was wanting to judge them
+-- the plan that is followed: that of the words, or memory was wanting to judge them, also where they are refused
 abbrev pub IsPlanned : List (List ℕ) → Plan → Type 0
-IsPlanned words plan = (plan ≡ plan_of_words words) ⊎ ((plan ≡ Unjudged) × (takes_memory words ≡ true))
+IsPlanned words plan = (plan ≡ plan_of_words words) ⊎ (plan ≡ Unjudged)
 
 -- the files were read as the words ask for
 pub record Planned (words : List (List ℕ)) (before after : FilesSeen) (actual : Opening) : Type 0 where

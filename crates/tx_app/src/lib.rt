@@ -2,6 +2,7 @@
 #![tactic(auto)]
 
 mod causes;
+mod command_line;
 mod error_line;
 mod journal;
 pub mod laws;

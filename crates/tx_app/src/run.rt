@@ -171,7 +171,8 @@ fn run<F: Files, K: Sink>(
 /// has it, where neither it nor an ancestor is disabled, nothing is pointed at, and the theme is
 /// dark. A selector outside its grammar, or one of 4 GiB or more, is refused with the words.
 ///
-/// `show TREE SHEET`, with `--width W --height H` behind it or without, sends one whole update of
+/// `show TREE SHEET`, with `--width W` and `--height H` anywhere after the mode, each at most once,
+/// or without, sends one whole update of
 /// the picture of the tree under the sheet to `out`, and then the closing bytes, each as far as
 /// `out` takes it. The tree is loaded once, and the sheet once behind a tree in the form. Nothing is
 /// sent before all is read. Where the status isn't 0 a line to `err` says why. No call on `files`

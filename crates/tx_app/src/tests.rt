@@ -1,4 +1,5 @@
 mod checks;
+mod command_lines;
 mod host;
 mod queries;
 mod recorded;

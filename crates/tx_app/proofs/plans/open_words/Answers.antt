@@ -8,4 +8,4 @@ returns-in-Ok-None g c =
     Planned-task _ _ _ None _ (sym (ap (λ task. option_map task_of task) c.in-Ok-None.field-0-is) ∙ c.in-Ok-None.ensures.asks) (Begun-misuse _)
 
 pub returns-in-Err : goal.returns-in-Err
-returns-in-Err g c = Planned-unjudged _ _ c.in-Err.ensures.memory
+returns-in-Err g c = Planned-unjudged _ _
