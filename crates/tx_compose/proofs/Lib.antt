@@ -1,0 +1,6 @@
+mod Spots
+mod Owning
+mod Mapping
+mod Looking
+mod Keeping
+mod Unscrolled

@@ -1,0 +1,9 @@
+pub mod Presented
+pub mod Frame
+pub mod Following
+pub mod Screen
+pub mod Seen
+pub mod Kept
+pub mod Ticks
+pub mod Sight
+pub mod ScrollsKept
