@@ -145,15 +145,22 @@ fn ticks_are_counted_by_their_sort(rt: HostRuntime) {
     six_ticks(&mut untold);
 }
 
-/// What five reads of at most three bytes give, of a source of seven bytes that fails at these
-/// places: the bytes, or `!` for a read that fails, and `.` for one that gives none.
-fn read_five_times(rt: &HostRuntime, fail_at: &[u64]) -> Result<Vec<u8>, AllocError> {
+/// What so many reads to these places give, of a source of seven bytes that fails at these places:
+/// the bytes, or `!` for a read that fails, and `.` for one that gives none.
+fn read_often(
+    rt: &HostRuntime,
+    places: &mut [u8],
+    times: usize,
+    fail_at: &[u64],
+) -> Result<Vec<u8>, AllocError> {
     let bytes = b"abcdefg".to_vec(rt.alloc())?;
     let mut source = MemorySource::new(bytes, fail_at.to_vec(rt.alloc())?);
     let mut seen = Vec::new(rt.alloc());
-    for _ in 0..5 {
-        let mut places = [0u8; 3];
-        let read = source.read(&mut places);
+    for _ in 0..times {
+        if places.is_empty() {
+            return Ok(seen);
+        }
+        let read = source.read(places);
         match read {
             Ok(0) => seen.push(b'.')?,
             Ok(count) => seen.extend_from_slice(&places[..count])?,
@@ -175,7 +182,28 @@ fn reading_stops_at_each_failing_place_once(rt: HostRuntime) -> Result<(), Fail>
         (&[8], b"abc def g . . "),
     ];
     for (fail_at, wanted) in cases {
-        let seen = read_five_times(&rt, fail_at)?;
+        let seen = read_often(&rt, &mut [0u8; 3], 5, fail_at)?;
+        assert_eq!(rt; seen.as_slice(), wanted, "failing at {fail_at:?}");
+    }
+    Ok(())
+}
+
+#[test]
+fn one_byte_at_a_time(rt: HostRuntime) -> Result<(), Fail> {
+    let cases: [(&[u64], &[u8]); 10] = [
+        (&[], b"a b c d e f g . . "),
+        (&[0], b"! a b c d e f g . "),
+        (&[1], b"a ! b c d e f g . "),
+        (&[2], b"a b ! c d e f g . "),
+        (&[3], b"a b c ! d e f g . "),
+        (&[4], b"a b c d ! e f g . "),
+        (&[5], b"a b c d e ! f g . "),
+        (&[6], b"a b c d e f ! g . "),
+        (&[7], b"a b c d e f g ! . "),
+        (&[8], b"a b c d e f g . . "),
+    ];
+    for (fail_at, wanted) in cases {
+        let seen = read_often(&rt, &mut [0u8; 1], 9, fail_at)?;
         assert_eq!(rt; seen.as_slice(), wanted, "failing at {fail_at:?}");
     }
     Ok(())

@@ -22,7 +22,7 @@ pub enum LineKind {
     BadNumber,
     /// A text in quotes that stands in the place of a selector is none.
     BadSelector,
-    /// The text in braces isn't a list of declarations.
+    /// The text in braces isn't a list of declarations, and all else is as it may be.
     BadInline,
 }
 

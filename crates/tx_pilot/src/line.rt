@@ -52,10 +52,21 @@ pub fn line_of(alloc: Global, line: &[u8]) -> Result<Option<Input>, LineFault>
 /// # Errors
 ///
 /// The first of these: TooLong where it has more than 65,536 bytes; BadByte where it isn't UTF-8;
-/// Expected where there is a line feed in it; else what is met first from the left. BadKey,
-/// BadSelector and BadInline are met at a word that stands in the place of a key, a selector or
-/// an inline text and is none. BadNumber is met at a word in the place of a number that isn't plain
-/// digits, or whose number is out of its range. Expected is met everywhere else. And NoMemory.
+/// Expected where there is a line feed in it; else what is met first from the left, and what stands
+/// after that isn't looked at:
+///
+/// - BadKey at a word in the place of a key that is none, and BadNumber at one in the place of a
+///   number that isn't plain digits, or whose number is out of its range. Such a word has at least
+///   one byte, and one blank before it: where there is none, Expected is met.
+/// - BadSelector at a text in quotes in the place of a selector that is none. In `before` the second
+///   text is such a place too. A text that has no closing quote, or an escape or a byte that may not
+///   stand in quotes, is Expected, whatever it holds.
+/// - BadInline where the text between the braces of `style` isn't a list of declarations, and the
+///   closing brace is the last byte of the line: else it is Expected. Of a row of `mount` it is met
+///   where the row is one of a tree file, so that all else that a row breaks is Expected.
+/// - Expected everywhere else.
+///
+/// And NoMemory.
 pub fn read_line(alloc: Global, line: &[u8]) -> Result<Option<Input>, LineFault>
     requires { length line.now < 2 ^ 32 }
     // What is read is what the line spells.

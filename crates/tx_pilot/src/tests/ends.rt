@@ -47,6 +47,7 @@ text '#s' '\\\\' => SetText 1:#s [\\]\n\
 text '#s' '{}+-' => SetText 1:#s [{}+-]\n\
 text '#s' 'a\\t' => Expected\n\
 text '#s' 'a\\ => Expected\n\
+text '#s' 'a\\'b' => SetText 1:#s [a\"b]\n\
 text '#s' 'a\\' => Expected\n\
 text '#s' 'a => Expected\n\
 text '#s' a => Expected\n\
