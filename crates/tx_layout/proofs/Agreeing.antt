@@ -26,7 +26,7 @@ use Rattle.tx_layout.specs.Style.{is_auto, size_in, item_of, base}
 use Rattle.tx_layout.specs.Children.{numbered, layer_numbers, is_in_layer, is_docked, is_at_side, is_in_flow, layers, docked, at_sides, flow}
 use Rattle.tx_layout.specs.Room.{greatest, extent, edges_of, edges_along}
 use Rattle.tx_layout.specs.Sides.{basis_of, content_of, content_if, ask_of, measured, across_one, sized_by, with_side, side_of, with_spans, in_row, areas, gaps, across, along, by_itself, is_main, sized, sized_both}
-use Rattle.tx_layout.specs.Line.{line_with, line_of, sized_for, line_extent}
+use Rattle.tx_layout.specs.Line.{Flow, line_with, line_of, sized_for, line_extent}
 use Rattle.tx_layout.specs.Grid.{frame_at, frame_with, framed, cells_of, columns_of, rows_of, sized_in, cut_in, area_of, sized_frames, grid_with, grid_of}
 use Rattle.tx_layout.specs.Flow.{flow_of, flow_extent}
 use Rattle.tx_layout.specs.Steps.{each_of}
@@ -57,13 +57,13 @@ stepped_from f x xs zs (Ok y) (Ok ys) a b e = record { y = y; ys = ys; first = a
 stepped_from f x xs zs (Ok y) (Err fault) a b e = absurd (let h : ⊥ = cc in h)
 stepped_from f x xs zs (Err fault) s a b e = absurd (let h : ⊥ = cc in h)
 
-each_kept : {A B F : Type 0} (f : A → Result B F) (P : A → Type 0) (Q : B → Type 0) → ((x : A) (y : B) → P x → f x ≡ Ok y → Q y) → (xs : List A) (ys : List B) → Every P xs → each_of f xs ≡ Ok ys → Every Q ys
+pub each_kept : {A B F : Type 0} (f : A → Result B F) (P : A → Type 0) (Q : B → Type 0) → ((x : A) (y : B) → P x → f x ≡ Ok y → Q y) → (xs : List A) (ys : List B) → Every P xs → each_of f xs ≡ Ok ys → Every Q ys
 each_kept f P Q step [] ys h e = subst (λ l. Every Q l) (let k : [] ≡ ys = cc in k) tt
 each_kept f P Q step (x ∷ xs) zs h e =
     let s = stepped_from f x xs zs (f x) (each_of f xs) refl refl e in
     subst (λ l. Every Q l) (sym s.is) (step x s.y h.0 s.first, each_kept f P Q step xs s.ys h.1 s.rest)
 
-every_map : {A : Type 0} (P Q : A → Type 0) → ((x : A) → P x → Q x) → (xs : List A) → Every P xs → Every Q xs
+pub every_map : {A : Type 0} (P Q : A → Type 0) → ((x : A) → P x → Q x) → (xs : List A) → Every P xs → Every Q xs
 every_map P Q f [] h = tt
 every_map P Q f (x ∷ xs) h = (f x h.0, every_map P Q f xs h.1)
 
@@ -111,65 +111,108 @@ below_side : (count : ℕ) (axis : Axis) (s : Side) (c : Child) → Below count 
 below_side count Width s c h = h
 below_side count Height s c h = h
 
-sized_by_kept : (count : ℕ) (axis : Axis) (c d : Child) (o : Option ℤ) → Below count c → sized_by axis c o ≡ Ok d → Below count d
-sized_by_kept count axis c d None h e = absurd (let k : ⊥ = cc in k)
-sized_by_kept count axis c d (Some z) h e =
-    let at : by_itself axis c z ≡ d = ok_is {F = Axis} (by_itself axis c z) d e in
-    subst (Below count) at (below_side count axis _ c h)
+-- ---- what is left as it is where children get their cells
 
-one_below : (count : ℕ) (m : Ask → Option ℕ) (axis : Axis) (basis : Basis) (c d : Child) → Below count c → across_one m axis basis c ≡ Ok d → Below count d
-unfolding across_one
-one_below count m axis basis c d h e =
-    let b = bound_at (measured m axis basis.area c) _ d e in
-    sized_by_kept count axis c d (box_cells b.value (bases axis basis (base c.style basis.area))) h b.second
+-- a child of a grid with its place
+abbrev pub InFrame : (Child → Type 0) → Framed → Type 0
+InFrame P f = P f.child
 
-spans_below : (count : ℕ) (axis : Axis) (cs : List Child) (spans : List Span) → Every (Below count) cs → Every (Below count) (with_spans axis cs spans)
-spans_below count axis [] spans h = tt
-spans_below count axis (c ∷ cs) [] h = tt
-spans_below count axis (c ∷ cs) (s ∷ spans) h = (below_side count axis (side_of s) c h.0, spans_below count axis cs spans h.1)
+module _ (P : Child → Type 0) (keeps : (axis : Axis) (s : Side) (c : Child) → P c → P (with_side axis s c)) where
+  sized_by_kept : (axis : Axis) (c d : Child) (o : Option ℤ) → P c → sized_by axis c o ≡ Ok d → P d
+  sized_by_kept axis c d None h e = absurd (let k : ⊥ = cc in k)
+  sized_by_kept axis c d (Some z) h e =
+      let at : by_itself axis c z ≡ d = ok_is {F = Axis} (by_itself axis c z) d e in
+      subst P at (keeps axis _ c h)
 
-along_below : (count : ℕ) (m : Ask → Option ℕ) (axis : Axis) (basis : Basis) (cs ds : List Child) → Every (Below count) cs → along m axis basis cs ≡ Ok ds → Every (Below count) ds
-unfolding along
-along_below count m axis basis cs ds h e =
-    let items = bound_at (each_of (measured m axis basis.area) cs) (in_row axis basis cs) ds e in
-    let spans = bound_at (or_refused axis (axis_spans items.value (gaps axis cs) axis basis (areas basis.area cs))) _ ds items.second in
-    subst (Every (Below count)) (ok_is {F = Axis} (with_spans axis cs spans.value) ds spans.second) (spans_below count axis cs spans.value h)
+  one_kept : (m : Ask → Option ℕ) (axis : Axis) (basis : Basis) (c d : Child) → P c → across_one m axis basis c ≡ Ok d → P d
+  unfolding across_one
+  one_kept m axis basis c d h e =
+      let b = bound_at (measured m axis basis.area c) _ d e in
+      sized_by_kept axis c d (box_cells b.value (bases axis basis (base c.style basis.area))) h b.second
 
-across_below : (count : ℕ) (m : Ask → Option ℕ) (axis : Axis) (basis : Basis) (cs ds : List Child) → Every (Below count) cs → across m axis basis cs ≡ Ok ds → Every (Below count) ds
-unfolding across
-across_below count m axis basis cs ds h e = each_kept (across_one m axis basis) (Below count) (Below count) (one_below count m axis basis) cs ds h e
+  spans_kept : (axis : Axis) (cs : List Child) (spans : List Span) → Every P cs → Every P (with_spans axis cs spans)
+  spans_kept axis [] spans h = tt
+  spans_kept axis (c ∷ cs) [] h = tt
+  spans_kept axis (c ∷ cs) (s ∷ spans) h = (keeps axis (side_of s) c h.0, spans_kept axis cs spans h.1)
 
-if_below : (count : ℕ) (b : Bool) (x y : Result (List Child) Axis) (ds : List Child) → (x ≡ Ok ds → Every (Below count) ds) → (y ≡ Ok ds → Every (Below count) ds) → (if b then x else y) ≡ Ok ds → Every (Below count) ds
-if_below count true x y ds f g e = f e
-if_below count false x y ds f g e = g e
+  along_kept : (m : Ask → Option ℕ) (axis : Axis) (basis : Basis) (cs ds : List Child) → Every P cs → along m axis basis cs ≡ Ok ds → Every P ds
+  unfolding along
+  along_kept m axis basis cs ds h e =
+      let items = bound_at (each_of (measured m axis basis.area) cs) (in_row axis basis cs) ds e in
+      let spans = bound_at (or_refused axis (axis_spans items.value (gaps axis cs) axis basis (areas basis.area cs))) _ ds items.second in
+      subst (Every P) (ok_is {F = Axis} (with_spans axis cs spans.value) ds spans.second) (spans_kept axis cs spans.value h)
 
-sized_below : (count : ℕ) (m : Ask → Option ℕ) (main : Option Axis) (basis : Basis) (axis : Axis) (cs ds : List Child) → Every (Below count) cs → sized m main basis axis cs ≡ Ok ds → Every (Below count) ds
-sized_below count m main basis axis cs ds h e =
-    if_below count (is_main main axis) (along m axis basis cs) (across m axis basis cs) ds (along_below count m axis basis cs ds h) (across_below count m axis basis cs ds h) e
+  pub across_kept : (m : Ask → Option ℕ) (axis : Axis) (basis : Basis) (cs ds : List Child) → Every P cs → across m axis basis cs ≡ Ok ds → Every P ds
+  unfolding across
+  across_kept m axis basis cs ds h e = each_kept (across_one m axis basis) P P (one_kept m axis basis) cs ds h e
 
--- ---- children of a grid
+  if_kept : (b : Bool) (x y : Result (List Child) Axis) (ds : List Child) → (x ≡ Ok ds → Every P ds) → (y ≡ Ok ds → Every P ds) → (if b then x else y) ≡ Ok ds → Every P ds
+  if_kept true x y ds f g e = f e
+  if_kept false x y ds f g e = g e
 
-abbrev Framed_below : ℕ → Framed → Type 0
-Framed_below count f = Below count f.child
+  sized_kept : (m : Ask → Option ℕ) (main : Option Axis) (basis : Basis) (axis : Axis) (cs ds : List Child) → Every P cs → sized m main basis axis cs ≡ Ok ds → Every P ds
+  sized_kept m main basis axis cs ds h e =
+      if_kept (is_main main axis) (along m axis basis cs) (across m axis basis cs) ds (along_kept m axis basis cs ds h) (across_kept m axis basis cs ds h) e
 
-cons_below : (count : ℕ) (o : Option Framed) (fs : List Framed) → (f : (g : Framed) → o ≡ Some g → Framed_below count g) → Every (Framed_below count) fs → Every (Framed_below count) (cons_option o fs)
-cons_below count None fs f h = h
-cons_below count (Some g) fs f h = (f g refl, h)
+  pub both_kept : (m : Ask → Option ℕ) (main : Option Axis) (basis : Basis) (cs ds : List Child) → Every P cs → sized_both m main basis cs ≡ Ok ds → Every P ds
+  unfolding sized_both
+  both_kept m main basis cs ds h e =
+      let wide = bound_at (sized m main basis Width cs) (sized m main basis Height) ds e in
+      sized_kept m main basis Height wide.value ds (sized_kept m main basis Width cs wide.value h wide.first) wide.second
 
-at_below : (count : ℕ) (xs ys : List Span) (c : Child) (p : Option Cells) (g : Framed) → Below count c → frame_at xs ys (c, p) ≡ Some g → Framed_below count g
-at_below count xs ys c None g h e = absurd (let k : ⊥ = cc in k)
-at_below count xs ys c (Some cells) g h e = let at : frame_with xs ys c cells ≡ g = cc in subst (Framed_below count) at h
+  line_kept : (m : Ask → Option ℕ) (main : Option Axis) (basis : Basis) (cs : List Child) (f : Flow) → Every P cs → line_of m main basis cs ≡ Ok f → Every P f.children
+  unfolding line_of
+  line_kept m main basis cs f h e =
+      let fs = bound_at (sized_both m main basis cs) _ f e in
+      subst (λ (x : Flow). Every P x.children) (ok_is {F = Axis} (line_with main fs.value) f fs.second) (both_kept m main basis cs fs.value h fs.first)
 
-framed_below : (count : ℕ) (xs ys : List Span) (places : List (Option Cells)) (cs : List Child) → Every (Below count) cs → Every (Framed_below count) (framed xs ys places cs)
-framed_below count xs ys places [] h = tt
-framed_below count xs ys [] (c ∷ cs) h = tt
-framed_below count xs ys (p ∷ places) (c ∷ cs) h = cons_below count (frame_at xs ys (c, p)) (framed xs ys places cs) (λ g e. at_below count xs ys c p g h.0 e) (framed_below count xs ys places cs h.1)
+  -- ---- children of a grid
 
-sized_in_below : (count : ℕ) (m : Ask → Option ℕ) (axis : Axis) (screen : Size) (f g : Framed) → Framed_below count f → sized_in m axis screen f ≡ Ok g → Framed_below count g
-unfolding sized_in
-sized_in_below count m axis screen f g h e =
-    let b = bound_at (across_one m axis (basis_of (area_of f) screen) f.child) _ g e in
-    subst (Framed_below count) (ok_is {F = Axis} (cut_in axis f b.value) g b.second) (below_side count axis _ b.value (one_below count m axis (basis_of (area_of f) screen) f.child b.value h b.first))
+  cons_kept : (o : Option Framed) (fs : List Framed) → (f : (g : Framed) → o ≡ Some g → InFrame P g) → Every (InFrame P) fs → Every (InFrame P) (cons_option o fs)
+  cons_kept None fs f h = h
+  cons_kept (Some g) fs f h = (f g refl, h)
+
+  at_kept : (xs ys : List Span) (c : Child) (p : Option Cells) (g : Framed) → P c → frame_at xs ys (c, p) ≡ Some g → InFrame P g
+  at_kept xs ys c None g h e = absurd (let k : ⊥ = cc in k)
+  at_kept xs ys c (Some cells) g h e = let at : frame_with xs ys c cells ≡ g = cc in subst (InFrame P) at h
+
+  pub framed_kept : (xs ys : List Span) (places : List (Option Cells)) (cs : List Child) → Every P cs → Every (InFrame P) (framed xs ys places cs)
+  framed_kept xs ys places [] h = tt
+  framed_kept xs ys [] (c ∷ cs) h = tt
+  framed_kept xs ys (p ∷ places) (c ∷ cs) h = cons_kept (frame_at xs ys (c, p)) (framed xs ys places cs) (λ g e. at_kept xs ys c p g h.0 e) (framed_kept xs ys places cs h.1)
+
+  in_kept : (m : Ask → Option ℕ) (axis : Axis) (screen : Size) (f g : Framed) → InFrame P f → sized_in m axis screen f ≡ Ok g → InFrame P g
+  unfolding sized_in
+  in_kept m axis screen f g h e =
+      let b = bound_at (across_one m axis (basis_of (area_of f) screen) f.child) _ g e in
+      subst (InFrame P) (ok_is {F = Axis} (cut_in axis f b.value) g b.second) (keeps axis _ b.value (one_kept m axis (basis_of (area_of f) screen) f.child b.value h b.first))
+
+  pub all_in_kept : (m : Ask → Option ℕ) (axis : Axis) (screen : Size) (fs gs : List Framed) → Every (InFrame P) fs → each_of (sized_in m axis screen) fs ≡ Ok gs → Every (InFrame P) gs
+  all_in_kept m axis screen fs gs h e = each_kept (sized_in m axis screen) (InFrame P) (InFrame P) (in_kept m axis screen) fs gs h e
+
+  frames_kept : (m : Ask → Option ℕ) (screen : Size) (fs gs : List Framed) → Every (InFrame P) fs → sized_frames m screen fs ≡ Ok gs → Every (InFrame P) gs
+  unfolding sized_frames
+  frames_kept m screen fs gs h e =
+      let wide = bound_at (each_of (sized_in m Width screen) fs) (each_of (sized_in m Height screen)) gs e in
+      all_in_kept m Height screen wide.value gs (all_in_kept m Width screen fs wide.value h wide.first) wide.second
+
+  children_kept : (fs : List Framed) → Every (InFrame P) fs → Every P (map (λ (f : Framed). f.child) fs)
+  children_kept [] h = tt
+  children_kept (f ∷ fs) h = (h.0, children_kept fs h.1)
+
+  grid_kept : (m : Ask → Option ℕ) (grid : GridStyle) (basis : Basis) (cs : List Child) (f : Flow) → Every P cs → grid_of m grid basis cs ≡ Ok f → Every P f.children
+  unfolding grid_of
+  grid_kept m grid basis cs f h e =
+      let xs = bound_at (columns_of grid basis) _ f e in
+      let ys = bound_at (rows_of grid basis (cells_of grid cs)) _ f xs.second in
+      let fs = bound_at (sized_frames m basis.screen (framed xs.value ys.value (cells_of grid cs) cs)) _ f ys.second in
+      subst (λ (x : Flow). Every P x.children) (ok_is {F = Axis} (grid_with xs.value ys.value fs.value) f fs.second)
+      (children_kept fs.value (frames_kept m basis.screen (framed xs.value ys.value (cells_of grid cs) cs) fs.value (framed_kept xs.value ys.value (cells_of grid cs) cs h) fs.first))
+
+  pub flow_kept : (m : Ask → Option ℕ) (kind : LayoutKind) (grid : GridStyle) (basis : Basis) (cs : List Child) (f : Flow) → Every P cs → flow_of m kind grid basis cs ≡ Ok f → Every P f.children
+  flow_kept m Vertical grid basis cs f h e = line_kept m (Some Height) basis cs f h e
+  flow_kept m Horizontal grid basis cs f h e = line_kept m (Some Width) basis cs f h e
+  flow_kept m Grid grid basis cs f h e = grid_kept m grid basis cs f h e
 
 -- ---- sizes
 
@@ -208,7 +251,7 @@ module _ (count : ℕ) (m n : Ask → Option ℕ) (agree : Agree count m n) wher
   both_same : (main : Option Axis) (basis : Basis) (cs : List Child) → Every (Below count) cs → sized_both m main basis cs ≡ sized_both n main basis cs
   unfolding sized_both
   both_same main basis cs h =
-      bind_same (sized m main basis Width cs) (sized n main basis Width cs) _ _ (sized_same main basis Width cs h) (λ ds is. sized_same main basis Height ds (sized_below count n main basis Width cs ds h is))
+      bind_same (sized m main basis Width cs) (sized n main basis Width cs) _ _ (sized_same main basis Width cs h) (λ ds is. sized_same main basis Height ds (sized_kept (Below count) (below_side count) n main basis Width cs ds h is))
 
   for_same : (axis : Axis) (main : Option Axis) (basis : Basis) (cs : List Child) → Every (Below count) cs → sized_for axis m main basis cs ≡ sized_for axis n main basis cs
   for_same Width main basis cs h = sized_same main basis Width cs h
@@ -224,26 +267,26 @@ module _ (count : ℕ) (m n : Ask → Option ℕ) (agree : Agree count m n) wher
   unfolding line_extent
   extent_same main axis basis cs h = ap (λ r. r >>= (λ fs. Ok (extent main axis fs))) (for_same axis main basis cs h)
 
-  in_same : (axis : Axis) (screen : Size) (f : Framed) → Framed_below count f → sized_in m axis screen f ≡ sized_in n axis screen f
+  in_same : (axis : Axis) (screen : Size) (f : Framed) → InFrame (Below count) f → sized_in m axis screen f ≡ sized_in n axis screen f
   unfolding sized_in
   in_same axis screen f h = ap (λ r. r >>= (λ c. Ok (cut_in axis f c))) (one_same axis (basis_of (area_of f) screen) f.child h)
 
-  all_in_same : (axis : Axis) (screen : Size) (fs : List Framed) → Every (Framed_below count) fs → each_of (sized_in m axis screen) fs ≡ each_of (sized_in n axis screen) fs
+  all_in_same : (axis : Axis) (screen : Size) (fs : List Framed) → Every (InFrame (Below count)) fs → each_of (sized_in m axis screen) fs ≡ each_of (sized_in n axis screen) fs
   all_in_same axis screen fs h =
-      each_same (sized_in m axis screen) (sized_in n axis screen) fs (every_map (Framed_below count) (λ f. sized_in m axis screen f ≡ sized_in n axis screen f) (in_same axis screen) fs h)
+      each_same (sized_in m axis screen) (sized_in n axis screen) fs (every_map (InFrame (Below count)) (λ f. sized_in m axis screen f ≡ sized_in n axis screen f) (in_same axis screen) fs h)
 
-  frames_same : (screen : Size) (fs : List Framed) → Every (Framed_below count) fs → sized_frames m screen fs ≡ sized_frames n screen fs
+  frames_same : (screen : Size) (fs : List Framed) → Every (InFrame (Below count)) fs → sized_frames m screen fs ≡ sized_frames n screen fs
   unfolding sized_frames
   frames_same screen fs h =
       bind_same (each_of (sized_in m Width screen) fs) (each_of (sized_in n Width screen) fs) _ _ (all_in_same Width screen fs h)
-      (λ gs is. all_in_same Height screen gs (each_kept (sized_in n Width screen) (Framed_below count) (Framed_below count) (sized_in_below count n Width screen) fs gs h is))
+      (λ gs is. all_in_same Height screen gs (all_in_kept (Below count) (below_side count) n Width screen fs gs h is))
 
   grid_same : (grid : GridStyle) (basis : Basis) (cs : List Child) → Every (Below count) cs → grid_of m grid basis cs ≡ grid_of n grid basis cs
   unfolding grid_of
   grid_same grid basis cs h =
       bind_same (columns_of grid basis) (columns_of grid basis) _ _ refl
       (λ xs at. bind_same (rows_of grid basis (cells_of grid cs)) (rows_of grid basis (cells_of grid cs)) _ _ refl
-      (λ ys is. ap (λ r. r >>= (λ fs. Ok (grid_with xs ys fs))) (frames_same basis.screen (framed xs ys (cells_of grid cs) cs) (framed_below count xs ys (cells_of grid cs) cs h))))
+      (λ ys is. ap (λ r. r >>= (λ fs. Ok (grid_with xs ys fs))) (frames_same basis.screen (framed xs ys (cells_of grid cs) cs) (framed_kept (Below count) (below_side count) xs ys (cells_of grid cs) cs h))))
 
   flow_same : (kind : LayoutKind) (grid : GridStyle) (basis : Basis) (cs : List Child) → Every (Below count) cs → flow_of m kind grid basis cs ≡ flow_of n kind grid basis cs
   flow_same Vertical grid basis cs h = line_same (Some Height) basis cs h

@@ -35,7 +35,7 @@ use Rattle.tx_layout.proofs.Agreeing.{bound_at, stepped_from, ok_is}
 
 -- ---- spans
 
-some_same : {A : Type 0} (x y : A) → Some x ≡ Some y → x ≡ y
+pub some_same : {A : Type 0} (x y : A) → Some x ≡ Some y → x ≡ y
 some_same x y e = cc
 
 -- what came of a step that may give nothing
@@ -57,7 +57,7 @@ mapped_at : {A B : Type 0} (o : Option A) (f : A → B) (z : B) → option_map f
 mapped_at None f z e = absurd (let h : ⊥ = cc in h)
 mapped_at (Some x) f z e = record { value = x; first = refl; is = some_same (f x) z e }
 
-abbrev BeginsAt : ℤ → List Span → Type 0
+abbrev pub BeginsAt : ℤ → List Span → Type 0
 BeginsAt z [] = Unit {0}
 BeginsAt z (s ∷ spans) = s.from ≡ z
 
@@ -75,17 +75,17 @@ spans_begin x (p ∷ ps) spans e =
     let rest = mapped_at (spans_from first.value.1 ps) _ spans first.second in
     subst (BeginsAt (floor_of x)) rest.is (placed_begins x p.0 p.1 first.value.0 first.value.1 first.first)
 
-axis_begins : (items : List Item) (gaps : List ℕ) (axis : Axis) (basis : Basis) (own : List Size) (spans : List Span) → axis_spans items gaps axis basis own ≡ Some spans → BeginsAt (pos (slice_index gaps 0)) spans
+pub axis_begins : (items : List Item) (gaps : List ℕ) (axis : Axis) (basis : Basis) (own : List Size) (spans : List Span) → axis_spans items gaps axis basis own ≡ Some spans → BeginsAt (pos (slice_index gaps 0)) spans
 unfolding axis_spans
 axis_begins items gaps axis basis own spans e =
     let sizes = then_at (axis_sizes items gaps axis basis own) _ spans e in
     subst (λ z. BeginsAt z spans) (ap pos (div-one (slice_index gaps 0))) (spans_begin (cells (slice_index gaps 0)) (zip sizes.value (drop 1 gaps)) spans sizes.second)
 
 -- spans from 0 on, of which none ends before it begins, and none begins before another ends
-record AreApart (spans : List Span) : Type 0 where
-  low : (i : ℕ) (d : Span) → i < length spans → pos 0 ≤ℤ (slice_index_or spans i d).from
-  forward : (i : ℕ) (d : Span) → i < length spans → (slice_index_or spans i d).from ≤ℤ (slice_index_or spans i d).to
-  apart : (i n : ℕ) (d : Span) → i + n + 1 < length spans → (slice_index_or spans i d).to ≤ℤ (slice_index_or spans (i + n + 1) d).from
+pub record AreApart (spans : List Span) : Type 0 where
+  pub low : (i : ℕ) (d : Span) → i < length spans → pos 0 ≤ℤ (slice_index_or spans i d).from
+  pub forward : (i : ℕ) (d : Span) → i < length spans → (slice_index_or spans i d).from ≤ℤ (slice_index_or spans i d).to
+  pub apart : (i n : ℕ) (d : Span) → i + n + 1 < length spans → (slice_index_or spans i d).to ≤ℤ (slice_index_or spans (i + n + 1) d).from
 
 follow_low : (gaps : List ℕ) (spans : List Span) (g : ℕ) → BeginsAt (pos g) spans → Follow gaps spans → (i : ℕ) (d : Span) → i < length spans → pos 0 ≤ℤ (slice_index_or spans i d).from
 follow_low gaps [] g b h i d within = absurd (omega arith)
@@ -106,13 +106,13 @@ follow_apart gaps spans h i (suc n) d within =
     let step = h.next (i + n + 1) d (omega arith) in
     subst (λ (m : ℕ). (slice_index_or spans i d).to ≤ℤ (slice_index_or spans m d).from) (let e : i + n + 1 + 1 ≡ i + suc n + 1 = omega arith in e) (omega (arith, ints))
 
-are_apart : (gaps : List ℕ) (spans : List Span) → BeginsAt (pos (slice_index gaps 0)) spans → Follow gaps spans → AreApart spans
+pub are_apart : (gaps : List ℕ) (spans : List Span) → BeginsAt (pos (slice_index gaps 0)) spans → Follow gaps spans → AreApart spans
 are_apart gaps spans b h = record { low = follow_low gaps spans (slice_index gaps 0) b h; forward = h.forward; apart = follow_apart gaps spans h }
 
 -- ---- children with spans
 
 -- where a span ends, as the cells of a child tell
-end_of : (s : Span) → pos 0 ≤ℤ s.from → s.from ≤ℤ s.to → pos (count_of s.from + count_of (s.to -ℤ s.from)) ≡ s.to
+pub end_of : (s : Span) → pos 0 ≤ℤ s.from → s.from ≤ℤ s.to → pos (count_of s.from + count_of (s.to -ℤ s.from)) ≡ s.to
 end_of s low up = at s.from s.to low up
   where
     back : (a : ℕ) (t : ℤ) → pos a ≤ℤ t → pos (a + count_of (t -ℤ pos a)) ≡ t
@@ -128,7 +128,7 @@ end_of s low up = at s.from s.to low up
     at (pos a) t low up = back a t up
     at (negsuc a) t low up = absurd (omega (arith, ints))
 
-begin_of : (z : ℤ) → pos 0 ≤ℤ z → pos (count_of z) ≡ z
+pub begin_of : (z : ℤ) → pos 0 ≤ℤ z → pos (count_of z) ≡ z
 begin_of (pos a) h = refl
 begin_of (negsuc a) h = absurd (omega (arith, ints))
 
@@ -152,6 +152,9 @@ spans_at axis (c ∷ cs) (s ∷ spans) (suc i) d e h =
 abbrev none : Span
 none = record { from = pos 0; to = pos 0 }
 
+pub not_past : (m n : ℕ) (x y : ℤ) → pos m ≡ x → pos n ≡ y → x ≤ℤ y → m ≤ n
+not_past m n x y e f h = omega (arith, ints)
+
 -- the cells of one end before those of another begin
 stand_apart : (axis : Axis) (cs : List Child) (spans : List Span) → AreApart spans → (i j : ℕ) (d : Child) → i < j → j < length (with_spans axis cs spans)
     → (side_in axis (slice_index_or (with_spans axis cs spans) i d)).from + (side_in axis (slice_index_or (with_spans axis cs spans) i d)).size ≤ (side_in axis (slice_index_or (with_spans axis cs spans) j d)).from
@@ -169,10 +172,7 @@ stand_apart axis cs spans h i j d less within =
     subst (λ (m : ℕ). (slice_index_or spans i none).to ≤ℤ (slice_index_or spans m none).from) (let e : i + (j - i - 1) + 1 ≡ j = omega arith in e) (h.apart i (j - i - 1) none (omega arith)) in
     let end = end_of s low up in
     let begin = begin_of t.from low' in
-    rw (a.1, b.1) (below (count_of s.from + count_of (s.to -ℤ s.from)) (count_of t.from) s.to t.from end begin gap)
-  where
-    below : (m n : ℕ) (x y : ℤ) → pos m ≡ x → pos n ≡ y → x ≤ℤ y → m ≤ n
-    below m n x y e f h = omega (arith, ints)
+    rw (a.1, b.1) (not_past (count_of s.from + count_of (s.to -ℤ s.from)) (count_of t.from) s.to t.from end begin gap)
 
 abbrev AreLow : List Span → Type 0
 AreLow [] = Unit {0}
@@ -353,9 +353,9 @@ along_fills meaning axis basis cs fs items total law l s =
 -- ---- heights leave the columns as they are
 
 -- the same columns, of the same style
-record SameColumns (c d : Child) : Type 0 where
-  wide : d.wide ≡ c.wide
-  style : d.style ≡ c.style
+pub record SameColumns (c d : Child) : Type 0 where
+  pub wide : d.wide ≡ c.wide
+  pub style : d.style ≡ c.style
 
 sized_columns : (c d : Child) (o : Option ℤ) → sized_by Height c o ≡ Ok d → SameColumns c d
 sized_columns c d None e = absurd (let h : ⊥ = cc in h)
@@ -363,7 +363,7 @@ sized_columns c d (Some z) e =
     let is : by_itself Height c z ≡ d = ok_is {F = Axis} (by_itself Height c z) d e in
     subst (SameColumns c) is (record { wide = refl; style = refl })
 
-one_columns : (meaning : Ask → Option ℕ) (basis : Basis) (c d : Child) → across_one meaning Height basis c ≡ Ok d → SameColumns c d
+pub one_columns : (meaning : Ask → Option ℕ) (basis : Basis) (c d : Child) → across_one meaning Height basis c ≡ Ok d → SameColumns c d
 unfolding across_one
 one_columns meaning basis c d e =
     let b = bound_at (measured meaning Height basis.area c) _ d e in
@@ -391,14 +391,14 @@ column_at meaning basis (c ∷ cs) zs (suc i) d e =
 -- ---- columns and rows
 
 -- a column: the widths, and then the axis
-record Column (meaning : Ask → Option ℕ) (basis : Basis) (cs : List Child) (flow : Flow) : Type 0 where
-  ready : List Child
-  children : List Child
-  widths : across meaning Width basis cs ≡ Ok ready
-  heights : along meaning Height basis ready ≡ Ok children
-  is : flow ≡ line_with (Some Height) children
+pub record Column (meaning : Ask → Option ℕ) (basis : Basis) (cs : List Child) (flow : Flow) : Type 0 where
+  pub ready : List Child
+  pub children : List Child
+  pub widths : across meaning Width basis cs ≡ Ok ready
+  pub heights : along meaning Height basis ready ≡ Ok children
+  pub is : flow ≡ line_with (Some Height) children
 
-column_of : (meaning : Ask → Option ℕ) (basis : Basis) (cs : List Child) (flow : Flow) → line_of meaning (Some Height) basis cs ≡ Ok flow → Column meaning basis cs flow
+pub column_of : (meaning : Ask → Option ℕ) (basis : Basis) (cs : List Child) (flow : Flow) → line_of meaning (Some Height) basis cs ≡ Ok flow → Column meaning basis cs flow
 unfolding line_of sized_both
 column_of meaning basis cs flow e =
     let b = bound_at (sized_both meaning (Some Height) basis cs) _ flow e in
@@ -406,14 +406,14 @@ column_of meaning basis cs flow e =
     record { ready = d.value; children = b.value; widths = d.first; heights = d.second; is = sym (ok_is {F = Axis} (line_with (Some Height) b.value) flow b.second) }
 
 -- a row: the axis, and then the heights
-record Row (meaning : Ask → Option ℕ) (basis : Basis) (cs : List Child) (flow : Flow) : Type 0 where
-  placed : List Child
-  children : List Child
-  widths : along meaning Width basis cs ≡ Ok placed
-  heights : each_of (across_one meaning Height basis) placed ≡ Ok children
-  is : flow ≡ line_with (Some Width) children
+pub record Row (meaning : Ask → Option ℕ) (basis : Basis) (cs : List Child) (flow : Flow) : Type 0 where
+  pub placed : List Child
+  pub children : List Child
+  pub widths : along meaning Width basis cs ≡ Ok placed
+  pub heights : each_of (across_one meaning Height basis) placed ≡ Ok children
+  pub is : flow ≡ line_with (Some Width) children
 
-row_of : (meaning : Ask → Option ℕ) (basis : Basis) (cs : List Child) (flow : Flow) → line_of meaning (Some Width) basis cs ≡ Ok flow → Row meaning basis cs flow
+pub row_of : (meaning : Ask → Option ℕ) (basis : Basis) (cs : List Child) (flow : Flow) → line_of meaning (Some Width) basis cs ≡ Ok flow → Row meaning basis cs flow
 unfolding line_of sized_both across
 row_of meaning basis cs flow e =
     let b = bound_at (sized_both meaning (Some Width) basis cs) _ flow e in

@@ -14,3 +14,4 @@ pub mod Filling
 pub mod Reaching
 pub mod Ordinary
 pub mod Shown
+pub mod Unshared

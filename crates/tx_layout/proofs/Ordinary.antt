@@ -92,7 +92,7 @@ some_and : {A : Type 0} (P : A → Type 0) (o : Option A) → IsSome o → ((x :
 some_and P (Some x) h k = k x refl
 some_and P None h k = absurd (let e : ⊥ = cc in e)
 
-every_of : {A : Type 0} (P : A → Type 0) (xs : List A) → All P xs → Every P xs
+pub every_of : {A : Type 0} (P : A → Type 0) (xs : List A) → All P xs → Every P xs
 every_of P [] h = tt
 every_of P (x ∷ xs) h = (All-head P x xs h, every_of P xs (All-tail P x xs h))
 
@@ -214,10 +214,10 @@ record IsCut (cells : Cells) : Type 0 where
   columns : IsSpan cells.columns
   rows : IsSpan cells.rows
 
-min_span : (a b : ℕ) → IsSpan a → IsSpan b → IsSpan (min a b)
+pub min_span : (a b : ℕ) → IsSpan a → IsSpan b → IsSpan (min a b)
 min_span a b p q = let pl = p.least in let ql = q.least in let pm = p.most in record { least = omega (arith, pl, ql); most = omega (arith, pm) }
 
-most_span : (rows : Option ℕ) (n : ℕ) → IfSome rows IsRowCount → IsSpan n → IsSpan (at_most rows n)
+pub most_span : (rows : Option ℕ) (n : ℕ) → IfSome rows IsRowCount → IsSpan n → IsSpan (at_most rows n)
 most_span None n h f = f
 most_span (Some limit) n h f = let hl = h.least in let fl = f.least in let fm = f.most in record { least = omega (arith, hl, fl); most = omega (arith, fm) }
 
@@ -270,7 +270,7 @@ rows_few placed count columns (Some limit) cs h f = let most = h.most in omega (
 abbrev IsDecimal : Scalar → Type 0
 IsDecimal s = IsShortDecimal s.value
 
-index_or : {A : Type 0} (P : A → Type 0) (xs : List A) (n : ℕ) (d : A) → Every P xs → P d → P (slice_index_or xs n d)
+pub index_or : {A : Type 0} (P : A → Type 0) (xs : List A) (n : ℕ) (d : A) → Every P xs → P d → P (slice_index_or xs n d)
 index_or P [] n d h g = g
 index_or P (x ∷ xs) zero d h g = h.0
 index_or P (x ∷ xs) (suc n) d h g = index_or P xs n d h.1 g
@@ -294,11 +294,11 @@ track_sized t h = record { size = decimal_positive t.value h; least = tt; most =
 track_lowest : (t : Scalar) → IsDecimal t → HasFractions (track_item t)
 track_lowest t h = record { size = h.value.lowest_terms; least = tt; most = tt }
 
-tracks_each : (P : Item → Type 0) (f : ℕ → Item) → ((n : ℕ) → P (f n)) → (a n : ℕ) → Every P (map f (range_with_len a n))
+pub tracks_each : (P : Item → Type 0) (f : ℕ → Item) → ((n : ℕ) → P (f n)) → (a n : ℕ) → Every P (map f (range_with_len a n))
 tracks_each P f h a zero = tt
 tracks_each P f h a (suc n) = (h a, tracks_each P f h (a + 1) n)
 
-range_long : (a n : ℕ) → length (range_with_len a n) ≡ n
+pub range_long : (a n : ℕ) → length (range_with_len a n) ≡ n
 range_long a zero = refl
 range_long a (suc n) = ap suc (range_long (a + 1) n)
 
@@ -306,7 +306,7 @@ track_gaps_small : (gutter count a n : ℕ) → gutter ≤ 9999 → Every IsCell
 track_gaps_small gutter count a zero h = tt
 track_gaps_small gutter count a (suc n) h = let less = gap_if ((a == 0) || (a == count)) gutter in (omega (arith, less, h), track_gaps_small gutter count (a + 1) n h)
 
-replicate_long : {A : Type 0} (n : ℕ) (x : A) → length (replicate n x) ≡ n
+pub replicate_long : {A : Type 0} (n : ℕ) (x : A) → length (replicate n x) ≡ n
 replicate_long zero x = refl
 replicate_long (suc n) x = ap suc (replicate_long n x)
 

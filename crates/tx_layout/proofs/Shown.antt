@@ -43,7 +43,7 @@ abbrev places : List Child → List ℕ
 places cs = map (λ (c : Child). c.place) cs
 
 -- steps that keep a number
-each_keeps : {A : Type 0} (f : A → Result A Axis) (k : A → ℕ) → ((x y : A) → f x ≡ Ok y → k y ≡ k x) → (xs ys : List A) → each_of f xs ≡ Ok ys → map k ys ≡ map k xs
+pub each_keeps : {A K : Type 0} (f : A → Result A Axis) (k : A → K) → ((x y : A) → f x ≡ Ok y → k y ≡ k x) → (xs ys : List A) → each_of f xs ≡ Ok ys → map k ys ≡ map k xs
 each_keeps f k step [] ys e = ap (map k) (sym (ok_is {F = Axis} [] ys e))
 each_keeps f k step (x ∷ xs) zs e =
     let s = stepped_from f x xs zs (f x) (each_of f xs) refl refl e in
@@ -201,7 +201,7 @@ any_place : (n : ℕ) (cs : List Child) → list_any (λ k. k == n) (places cs) 
 any_place n [] = refl
 any_place n (c ∷ cs) = ap (λ b. (c.place == n) || b) (any_place n cs)
 
-at_place : (count n : ℕ) (rs : List (ℕ × Region)) → n < count → slice_index_or (placed_by count rs) n None ≡ region_of rs n
+pub at_place : (count n : ℕ) (rs : List (ℕ × Region)) → n < count → slice_index_or (placed_by count rs) n None ≡ region_of rs n
 unfolding placed_by
 at_place count n rs h = get_or-map-range_with_len (region_of rs) 0 count n n None h (omega arith)
 

@@ -1,8 +1,8 @@
 -- What holds of arrangements and measures, in an author's words.
-use Rattle.std.specs.Prelude.{ℕ, ◌<◌, ◌==◌, ◌≡◌, ◌++◌, pos, Option, Some, None, List, length, All, slice_index_or, Result, Ok}
+use Rattle.std.specs.Prelude.{ℕ, ◌<◌, ◌==◌, ◌≡◌, ◌≢◌, ◌++◌, pos, Option, Some, None, List, length, All, slice_index_or, IfSome, Result, Ok}
 use Rattle.std.specs.List.{filter_map, flat_map, list_any, zip}
 use Rattle.std.specs.Option.{is_some, option_map}
-use Rattle.tx_frac.specs.Ratio.{Ratio}
+use Rattle.tx_frac.specs.Ratio.{Ratio, IsLowest}
 use Rattle.tx_geom.specs.Along.{side}
 use Rattle.tx_geom.specs.Region.{Holds}
 use Rattle.tx_geom.specs.declared.places.Offset.{Offset}
@@ -20,10 +20,12 @@ use Rattle.tx_layout.specs.Grid.{cells_of}
 use Rattle.tx_layout.specs.Sides.{across, areas, gaps, measured}
 use Rattle.tx_layout.specs.Line.{Flow, line_of}
 use Rattle.tx_layout.specs.Steps.{each_of}
+use Rattle.tx_layout.specs.Style.{IsBoxStyle, IsGridStyle, limit_in}
 use Rattle.tx_geom.specs.declared.choices.AlignX.{AlignX}
 use Rattle.tx_geom.specs.declared.choices.AlignY.{AlignY}
 use Rattle.tx_geom.specs.declared.choices.LayoutKind.{LayoutKind}
 use Rattle.tx_geom.specs.declared.choices.LayoutKind.TheVariants.{Vertical, Horizontal, Grid}
+use Rattle.tx_geom.specs.declared.places.Region.{Region}
 use Rattle.tx_geom.specs.declared.places.Size.{Size}
 use Rattle.tx_grid.specs.declared.places.Cells.{Cells}
 use Rattle.tx_layout.specs.declared.styles.Arrangement.{Arrangement}
@@ -122,3 +124,46 @@ pub record MeaningsDecide : Type 0 where
       → Agree (length styles) m n → wide m kind grid styles area screen ≡ wide n kind grid styles area screen
   pub height : (m n : Ask → Option ℕ) (kind : LayoutKind) (grid : GridStyle) (styles : List BoxStyle) (width : ℕ) (area screen : Size)
       → Agree (length styles) m n → tall m kind grid styles width area screen ≡ tall n kind grid styles width area screen
+
+-- ---- what shares no cell in an arrangement
+
+-- a style that the calls accept, with its numbers in lowest terms, as all fractions are
+pub record IsAccepted (s : BoxStyle) : Type 0 where
+  pub style : IsBoxStyle s
+  pub width : IsLowest s.width.value
+  pub height : IsLowest s.height.value
+  pub least : (axis : Axis) → IfSome (limit_in axis s.least) (λ limit. IsLowest limit.value)
+  pub most : (axis : Axis) → IfSome (limit_in axis s.most) (λ limit. IsLowest limit.value)
+
+-- a grid that the calls accept, with its numbers in lowest terms
+pub record IsAcceptedGrid (g : GridStyle) : Type 0 where
+  pub style : IsGridStyle g
+  pub column_tracks : All (λ track. IsLowest track.value) g.column_tracks
+  pub row_tracks : All (λ track. IsLowest track.value) g.row_tracks
+
+-- a child that isn't docked and isn't moved from its place
+pub record StaysInFlow (s : BoxStyle) : Type 0 where
+  pub flow : s.dock ≡ None
+  pub still : s.offset ≡ record { x = pos 0; y = pos 0 }
+
+-- In the arrangement of a column, a row or a grid, no two children of one layer share a cell that aren't docked and aren't
+-- moved.
+abbrev pub NoneShareInArrangement : Type 0
+NoneShareInArrangement =
+    (meaning : Ask → Option ℕ) (kind : LayoutKind) (grid : GridStyle) (align : AlignX × AlignY) (styles : List BoxStyle) (area screen : Size) (a : Arrangement)
+    → All IsAccepted styles → IsAcceptedGrid grid → arranged meaning kind grid align styles area screen ≡ Ok a
+    → (i j : ℕ) (d : BoxStyle) → i < length styles → j < length styles → i ≢ j
+    → StaysInFlow (slice_index_or styles i d) → StaysInFlow (slice_index_or styles j d) → (slice_index_or styles i d).layer ≡ (slice_index_or styles j d).layer
+    → (r q : Region) → slice_index_or a.placed i None ≡ Some r → slice_index_or a.placed j None ≡ Some q
+    → (p : Offset) → Holds r p → Holds q p → ⊥
+
+-- ---- what fills its room, for accepted styles
+
+-- The room of a column or a row is filled as in FillsRoom where its children have accepted styles: these are all that its
+-- boxes need.
+abbrev pub AcceptedFillRoom : Type 0
+AcceptedFillRoom =
+    (meaning : Ask → Option ℕ) (main : Axis) (basis : Basis) (cs : List Child) (flow : Flow)
+    → All (λ c. IsAccepted c.style) cs → line_of meaning (Some main) basis cs ≡ Ok flow
+    → (ready : List Child) (items : List Item) → at_axis meaning main basis cs ≡ Ok ready → each_of (measured meaning main basis.area) ready ≡ Ok items
+    → SharesFlow main basis ready items → extent_in main flow ≡ side main basis.area

@@ -613,7 +613,12 @@ fn lines_stand_as_worked_out(rt: HostRuntime) -> Result<(), Fail> {
          horizontal 20,10 left,top | h=huge%/dock=top w=huge% => 1x height = width height\n\
          horizontal 20,10 left,top | max-w=huge%/h=huge%/layer=1 h=huge% => 1x height = width height\n\
          horizontal 13,10 left,top | w=4/h=auto => 1x height = 4 height\n\
-         horizontal 20,10 left,top | w=huge%/dock=left h=huge%/dock=top => 1x width = width width",
+         horizontal 20,10 left,top | w=huge%/dock=left h=huge%/dock=top => 1x width = width width\n\
+         horizontal 20,10 center,top | w=5/h=2 w=4/h=3 => 1x 5,0,5,2 10,0,4,3 / 0,0 = 9 3\n\
+         horizontal 20,10 right,top | w=5/h=2 w=4/h=3 => 1x 11,0,5,2 16,0,4,3 / 0,0 = 9 3\n\
+         horizontal 20,10 left,bottom | w=5/h=2 w=4/h=3 => 1x 0,7,5,2 5,7,4,3 / 0,0 = 9 3\n\
+         horizontal 20,10 right,middle | w=5/h=2 w=4/h=3 => 1x 11,3,5,2 16,3,4,3 / 0,0 = 9 3\n\
+         horizontal 20,10 left,top | w=3/dock=left/m=1,1,1,1 w=2/dock=right/m=0,1,0,0 w=1fr w=1fr/min-w=9 => 1x 1,1,3,8 17,0,2,10 5,0,3,10 8,0,9,10 / 0,0 = 20 10",
         |given| answer(alloc, given),
     )
 }

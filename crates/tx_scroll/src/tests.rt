@@ -317,7 +317,18 @@ fn small_areas_have_bars_too(rt: HostRuntime) -> Result<(), Fail> {
          as v 1 1 - f,f => 01 0 1 over 0 0, 1: 0 0 0 1;\n\
          sa v 1 1 - f,1 => 11 0 0 over 0 1, 2: 0 0 0 1;\n\
          hh v 0 0 - 3,4 => 00 0 0 over 3 4, 1: 0 0 3 4;\n\
-         ss v 0 0 - 2,2 => 11 0 0 over 2 2, 1: 0 0 2 2;",
+         ss v 0 0 - 2,2 => 11 0 0 over 2 2, 1: 0 0 2 2;\n\
+         ah v 1 1 - f,f => 00 1 1 over 0 0, 1: 0 0 1 1;\n\
+         ha v 1 1 - f,2 => 01 0 1 over 0 1, 2: 0 0 0 2;\n\
+         hs v 1 1 - 1,1 => 01 0 1 over 1 0, 1: 0 0 1 1;\n\
+         sh v 1 1 - 1,1 => 10 1 0 over 0 1, 1: 0 0 1 1;\n\
+         hh v 1 1 - 2,2 => 00 1 1 over 1 1, 1: 0 0 2 2;\n\
+         ah v 0 0 - 1,1 => 10 0 0 over 1 1, 2: 0 0 1 1;\n\
+         ha v 0 0 - 1,1 => 01 0 0 over 1 1, 2: 0 0 1 1;\n\
+         as v 0 0 - f,f => 01 0 0 over 0 0, 1: 0 0 0 0;\n\
+         sa v 0 0 - f,f => 10 0 0 over 0 0, 1: 0 0 0 0;\n\
+         hs v 0 0 - f,f => 01 0 0 over 0 0, 1: 0 0 0 0;\n\
+         sh v 0 0 - f,f => 10 0 0 over 0 0, 1: 0 0 0 0;",
         |given| answer(alloc, given),
     )
 }
@@ -331,7 +342,22 @@ fn grids_have_bars_too(rt: HostRuntime) -> Result<(), Fail> {
          aa g 17 5 - f,f f,f => 10 17 4 over 1 0, 3: 0 0 9 4; 9 0 9 4;\n\
          aa g 20 3 - f,f => 01 18 3 over 0 1, 2: 0 0 9 4;\n\
          ah g 20 3 - f,f => 00 20 3 over 0 1, 1: 0 0 9 4;\n\
-         ss g 20 10 - 3,a => 11 18 9 over 0 0, 1: 0 0 3 4;",
+         ss g 20 10 - 3,a => 11 18 9 over 0 0, 1: 0 0 3 4;\n\
+         aa g 18 4 - f,f => 00 18 4 over 0 0, 1: 0 0 9 4;\n\
+         aa g 18 3 - f,f => 11 16 2 over 2 2, 4: 0 0 9 4;\n\
+         ah g 18 3 - f,f => 00 18 3 over 0 1, 1: 0 0 9 4;\n\
+         ah g 17 4 - f,f => 10 17 3 over 1 1, 2: 0 0 9 4;\n\
+         as g 20 4 - f,f => 01 18 4 over 0 0, 1: 0 0 9 4;\n\
+         as g 19 4 - f,f => 11 17 3 over 1 1, 2: 0 0 9 4;\n\
+         ha g 17 4 - f,f => 00 17 4 over 1 0, 1: 0 0 9 4;\n\
+         ha g 20 3 - f,f => 01 18 3 over 0 1, 2: 0 0 9 4;\n\
+         sa g 18 5 - f,f => 10 18 4 over 0 0, 1: 0 0 9 4;\n\
+         sa g 18 4 - f,f => 11 16 3 over 2 1, 2: 0 0 9 4;\n\
+         sh g 18 4 - f,f => 10 18 3 over 0 1, 1: 0 0 9 4;\n\
+         hs g 18 4 - f,f => 01 16 4 over 2 0, 1: 0 0 9 4;\n\
+         hh g 17 3 - f,f => 00 17 3 over 1 1, 1: 0 0 9 4;\n\
+         aa g 0 0 - f,f => 11 0 0 over 18 4, 4: 0 0 9 4;\n\
+         ss g 1 1 - f,f => 11 0 0 over 18 4, 1: 0 0 9 4;",
         |given| answer(alloc, given),
     )
 }
