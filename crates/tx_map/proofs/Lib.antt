@@ -16,3 +16,7 @@ mod OrdinarySheets
 mod Subtrees
 mod Kept
 mod Refused
+mod Shown
+mod Keys
+mod Moving
+mod Outcomes

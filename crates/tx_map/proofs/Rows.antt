@@ -6,12 +6,13 @@ use Rattle.std.proofs.lemmas.List.Sums.{prefix_len-le-length}
 use Rattle.std.proofs.Math.ListN.{drop_of_length-le}
 use Rattle.std.specs.List.{prefix_len}
 use Rattle.std.specs.Prelude.{nat_lt, slice_index}
+use Rattle.tx_map.specs.Ticks.{container_number, containers_below}
 use Rattle.tx_sizes.specs.Counts.{counts, is_deeper}
 use Rattle.tx_layout.specs.declared.styles.BoxStyle.{BoxStyle}
 use Rattle.tx_look.specs.Boxes.{box_style}
 use Rattle.tx_sizes.specs.Measures.{boxes, is_taking_part}
 use Rattle.tx_value.specs.declared.value.Value.{Value}
-use Rattle.tx_sizes.proofs.lemmas.RowsBelow.{behind-count, counts-drop, length-counts, prefix-deeper}
+use Rattle.tx_sizes.proofs.lemmas.RowsBelow.{behind-count, counts-drop, deeper_too, length-counts, prefix-deeper}
 use Rattle.tx_sizes.specs.Forest.{Styled, Forest, Empty, Grown, depth, under, behind, forest}
 
 -- ---- one child of a container at depth d
@@ -91,6 +92,41 @@ passed_next {d} {at} {next} {rows} {row} passed child =
     let later : drop c rest ≡ drop next rows = drop-drop c (suc at) rows ∙ ap (λ n. drop n rows) (let e : suc at + c ≡ next = omega (arith, child.then) in e) in
     let last : p (drop c rest) ≡ p (drop next rows) = ap p later in
     record { is = omega (arith, passed.is, first, more, last, child.then); within = child.within }
+
+-- ---- how many containers are among them
+
+more_containers : (d e : ℕ) → d ≤ e → (row : Styled) (rows : List Styled)
+    → containers_below d rows ≡ containers_below e rows + containers_below d (drop (prefix_len (is_deeper e) rows) rows)
+    → (deep : Bool) → nat_lt e (depth row) ≡ deep
+    → containers_below d (row ∷ rows) ≡ cond deep (container_number row.row + containers_below e rows) 0 + containers_below d (drop (cond deep (1 + prefix_len (is_deeper e) rows) 0) (row ∷ rows))
+unfolding containers_below
+more_containers d e h row rows same true is =
+    let next : 1 + prefix_len (is_deeper e) rows ≡ suc (prefix_len (is_deeper e) rows) = omega arith in
+    rw (deeper_too d e (depth row) h is, next) (omega (arith, same))
+more_containers d e h row rows same false is = omega arith
+
+containers_deeper : (d e : ℕ) → d ≤ e → (rows : List Styled)
+    → containers_below d rows ≡ containers_below e rows + containers_below d (drop (prefix_len (is_deeper e) rows) rows)
+unfolding containers_below
+containers_deeper d e h [] = refl
+containers_deeper d e h (row ∷ rows) = more_containers d e h row rows (containers_deeper d e h rows) (nat_lt e (depth row)) refl
+
+first_container : (d : ℕ) (row : Styled) (rows : List Styled) → nat_lt d (depth row) ≡ true → containers_below d (row ∷ rows) ≡ container_number row.row + containers_below d rows
+unfolding containers_below
+first_container d row rows is = rw is refl
+
+-- those of a child and of the rows below it come before those of the next one
+pub containers_next : {d at next : ℕ} {rows : List Styled} {row : Styled} → Child d rows at row next
+    → containers_below d (drop at rows) ≡ (container_number row.row + containers_below (depth row) (drop (suc at) rows)) + containers_below d (drop next rows)
+containers_next {d} {at} {next} {rows} {row} child =
+    let rest = drop (suc at) rows in
+    let c = prefix_len (is_deeper (depth row)) rest in
+    let first : containers_below d (drop at rows) ≡ container_number row.row + containers_below d rest =
+    ap (containers_below d) child.here ∙ first_container d row rest (lt-ltb d (depth row) child.deep) in
+    let more : containers_below d rest ≡ containers_below (depth row) rest + containers_below d (drop c rest) = containers_deeper d (depth row) (omega (arith, child.deep)) rest in
+    let later : drop c rest ≡ drop next rows = drop-drop c (suc at) rows ∙ ap (λ n. drop n rows) (let e : suc at + c ≡ next = omega (arith, child.then) in e) in
+    let last : containers_below d (drop c rest) ≡ containers_below d (drop next rows) = ap (containers_below d) later in
+    omega (arith, first, more, last)
 
 -- ---- how many children there are
 

@@ -1,22 +1,20 @@
 -- The loop over the children of a container.
 use Rattle.std.proofs.Common.{◌≡◌, ℕ, suc, ◌+◌, ◌*◌, ◌≤◌, Bool, true, false, cond, List, [], ◌∷◌, drop, Option, ◌∙◌, refl, sym, ap, arith}
 use Rattle.std.proofs.lemmas.List.{drop-drop}
-use Rattle.std.specs.List.{prefix_len}
 use Rattle.tx_geom.specs.declared.places.Region.{Region}
 use Rattle.tx_io.specs.declared.steps.Tick.{Tick}
 use Rattle.tx_map.specs.Faults.{told, IsBehind}
 use Rattle.tx_map.specs.LayoutMap.{Container, entries, first_region}
 use Rattle.tx_map.specs.Scene.{Scene}
 use Rattle.tx_map.specs.Subtrees.{child_entries, children_entries, regions_taken}
-use Rattle.tx_map.specs.Ticks.{ArrangedAtMost}
+use Rattle.tx_map.specs.Ticks.{ArrangedAtMost, container_number, containers_below}
 use Rattle.tx_map.specs.declared.entry.Entry.{Entry}
 use Rattle.tx_map.specs.declared.fault.ComposeFault.{ComposeFault}
 use Rattle.tx_map.proofs.Adding.{ahead, IsSoFar, none_so_far, more_so_far, refused_so_far, all_so_far, next_entries}
-use Rattle.tx_map.proofs.Rows.{Child, Passed, from, passed_none, passed_next}
+use Rattle.tx_map.proofs.Rows.{Child, Passed, containers_next, from, passed_none, passed_next}
 use Rattle.tx_map.proofs.Ticking.{arranged_none, arranged_both, arranged_more}
 use Rattle.tx_read.specs.Answer.{Tells}
 use Rattle.tx_read.specs.Reading.{◌>>=◌}
-use Rattle.tx_sizes.specs.Counts.{is_deeper}
 use Rattle.tx_sizes.specs.Forest.{Styled, Empty, depth}
 use Rattle.tx_sizes.specs.Measures.{is_taking_part}
 
@@ -25,7 +23,9 @@ pub record IsGoneOver {L : Type 0} (ticked : L → Tick → L → Type 0) (scene
     (old new : List Entry) (before after : L) (at next place : ℕ) : Type 0 where
   pub so_far : IsSoFar old new (children_entries scene d rows above regions) (entries scene (from d rows at) above place (drop next regions))
   pub passed : Passed d rows at
-  pub ticks : ArrangedAtMost ticked (4 * at) before after
+  pub containers : ℕ
+  pub counted : containers_below d rows ≡ containers + containers_below d (drop at rows)
+  pub ticks : ArrangedAtMost ticked (4 * containers) before after
   pub placed : place ≤ at
   pub taken : next ≤ at
 
@@ -34,6 +34,8 @@ pub gone_none : {L : Type 0} (ticked : L → Tick → L → Type 0) (scene : Sce
 gone_none ticked scene d rows above regions old before = record {
   so_far = none_so_far old (children_entries scene d rows above regions);
   passed = passed_none d rows;
+  containers = 0;
+  counted = omega arith;
   ticks = arranged_none ticked 0 before;
   placed = omega arith;
   taken = omega arith;
@@ -63,14 +65,16 @@ pub gone_next : {L : Type 0} {ticked : L → Tick → L → Type 0} {scene : Sce
     → IsGoneOver ticked scene d rows above regions old new before after at next place → Child d rows at row then
     → region ≡ first_region (drop next regions) → taken ≡ regions_taken row
     → IsBehind new newer (child_entries scene row (drop (suc at) rows) above place (region ∷ []))
-    → ArrangedAtMost ticked (4 * (1 + prefix_len (is_deeper (depth row)) (drop (suc at) rows))) after later
+    → ArrangedAtMost ticked (4 * (container_number row.row + containers_below (depth row) (drop (suc at) rows))) after later
     → IsGoneOver ticked scene d rows above regions old newer before later then (next + taken) (place + 1)
 gone_next {ticked = ticked} {scene = scene} {d = d} {rows = rows} {above = above} {regions = regions} {at = at} {next = next} {place = place} {then = then} {row = row} region taken gone child is count own ticks =
     let some : taken ≤ 1 = few_taken row taken count in
     record {
       so_far = more_so_far gone.so_far (child_next scene above place next regions region taken child is count) own;
       passed = passed_next gone.passed child;
-      ticks = arranged_more (arranged_both gone.ticks ticks) (omega (arith, child.then));
+      containers = gone.containers + (container_number row.row + containers_below (depth row) (drop (suc at) rows));
+      counted = let next = containers_next child in omega (arith, gone.counted, next);
+      ticks = arranged_more (arranged_both gone.ticks ticks) (omega arith);
       placed = omega (arith, gone.placed, child.then);
       taken = omega (arith, gone.taken, child.then, some);
     }
@@ -85,8 +89,8 @@ gone_all {scene = scene} {above = above} {regions = regions} {next = next} {plac
 
 pub gone_ticks : {L : Type 0} {ticked : L → Tick → L → Type 0} {scene : Scene} {d : ℕ} {rows : List Styled} {above : Container} {regions : List (Option Region)} {old new : List Entry}
     {before after : L} {at next place : ℕ} → IsGoneOver ticked scene d rows above regions old new before after at next place
-    → ArrangedAtMost ticked (4 * prefix_len (is_deeper d) rows) before after
-gone_ticks gone = arranged_more gone.ticks (omega (arith, gone.passed.is))
+    → ArrangedAtMost ticked (4 * containers_below d rows) before after
+gone_ticks gone = arranged_more gone.ticks (omega (arith, gone.counted))
 
 -- a child is refused
 pub gone_refused : {L : Type 0} {ticked : L → Tick → L → Type 0} {scene : Scene} {d : ℕ} {rows : List Styled} {above : Container} {regions : List (Option Region)} {old new : List Entry}
@@ -101,8 +105,8 @@ gone_refused {scene = scene} {above = above} {regions = regions} {next = next} {
 pub gone_refused_ticks : {L : Type 0} {ticked : L → Tick → L → Type 0} {scene : Scene} {d : ℕ} {rows : List Styled} {above : Container} {regions : List (Option Region)} {old new : List Entry}
     {before after later : L} {at next place then : ℕ} {row : Styled}
     → IsGoneOver ticked scene d rows above regions old new before after at next place → Child d rows at row then
-    → ArrangedAtMost ticked (4 * (1 + prefix_len (is_deeper (depth row)) (drop (suc at) rows))) after later
-    → ArrangedAtMost ticked (4 * prefix_len (is_deeper d) rows) before later
+    → ArrangedAtMost ticked (4 * (container_number row.row + containers_below (depth row) (drop (suc at) rows))) after later
+    → ArrangedAtMost ticked (4 * containers_below d rows) before later
 gone_refused_ticks {d = d} {rows = rows} gone child ticks =
-    let p = passed_next gone.passed child in
-    arranged_more (arranged_both gone.ticks ticks) (omega (arith, child.then, p.is))
+    let next = containers_next child in
+    arranged_more (arranged_both gone.ticks ticks) (omega (arith, gone.counted, next))

@@ -46,26 +46,28 @@ set_over scene row f place =
 -- ---- what stands at the front
 
 -- the entries of a row that is mapped are its own and those below it
-pub record IsMapped (scene : Scene) (row : Styled) (place : Place) (children : Container → List (Option Region) → Mapped (List Entry)) (es : List Entry) : Type 0 where
+pub record IsMapped (scene : Scene) (row : Styled) (bs : List BoxStyle) (ms : List Measure) (place : Place) (children : Container → List (Option Region) → Mapped (List Entry)) (es : List Entry) : Type 0 where
   pub bars : Barred
   pub rest : List Entry
+  pub barred : barred_row scene.size row bs ms (content_size row place.region) ≡ Ok bars
   pub below : children (container scene row place bars) bars.arrangement.placed ≡ Ok rest
   pub all : es ≡ entry_at scene row place bars ∷ rest
 
-mapped_below : (scene : Scene) (row : Styled) (place : Place) (children : Container → List (Option Region) → Mapped (List Entry)) (es : List Entry) (bars : Barred) (r : Mapped (List Entry))
-    → children (container scene row place bars) bars.arrangement.placed ≡ r → (r >>= (λ below. Ok (entry_at scene row place bars ∷ below))) ≡ Ok es → IsMapped scene row place children es
-mapped_below scene row place children es bars (Ok rest) below is = record { bars = bars; rest = rest; below = below; all = cc }
-mapped_below scene row place children es bars (Err fault) below is = cc
+mapped_below : (scene : Scene) (row : Styled) (bs : List BoxStyle) (ms : List Measure) (place : Place) (children : Container → List (Option Region) → Mapped (List Entry)) (es : List Entry) (bars : Barred)
+    (r : Mapped (List Entry)) → barred_row scene.size row bs ms (content_size row place.region) ≡ Ok bars → children (container scene row place bars) bars.arrangement.placed ≡ r
+    → (r >>= (λ below. Ok (entry_at scene row place bars ∷ below))) ≡ Ok es → IsMapped scene row bs ms place children es
+mapped_below scene row bs ms place children es bars (Ok rest) barred below is = record { bars = bars; rest = rest; barred = barred; below = below; all = cc }
+mapped_below scene row bs ms place children es bars (Err fault) barred below is = cc
 
-mapped_row : (scene : Scene) (row : Styled) (place : Place) (children : Container → List (Option Region) → Mapped (List Entry)) (es : List Entry) (r : Result Barred Axis)
-    → (at_node row.row.node r >>= entries_with scene row place children) ≡ Ok es → IsMapped scene row place children es
-mapped_row scene row place children es (Ok bars) is = mapped_below scene row place children es bars (children (container scene row place bars) bars.arrangement.placed) refl is
-mapped_row scene row place children es (Err axis) is = cc
+mapped_row : (scene : Scene) (row : Styled) (bs : List BoxStyle) (ms : List Measure) (place : Place) (children : Container → List (Option Region) → Mapped (List Entry)) (es : List Entry) (r : Result Barred Axis)
+    → barred_row scene.size row bs ms (content_size row place.region) ≡ r → (at_node row.row.node r >>= entries_with scene row place children) ≡ Ok es → IsMapped scene row bs ms place children es
+mapped_row scene row bs ms place children es (Ok bars) eq is = mapped_below scene row bs ms place children es bars (children (container scene row place bars) bars.arrangement.placed) eq refl is
+mapped_row scene row bs ms place children es (Err axis) eq is = cc
 
 pub is_mapped : (scene : Scene) (row : Styled) (bs : List BoxStyle) (ms : List Measure) (place : Place) (children : Container → List (Option Region) → Mapped (List Entry)) (es : List Entry)
-    → row_entries scene row bs ms children place ≡ Ok es → IsMapped scene row place children es
+    → row_entries scene row bs ms children place ≡ Ok es → IsMapped scene row bs ms place children es
 unfolding row_entries
-is_mapped scene row bs ms place children es is = mapped_row scene row place children es (barred_row scene.size row bs ms (content_size row place.region)) is
+is_mapped scene row bs ms place children es is = mapped_row scene row bs ms place children es (barred_row scene.size row bs ms (content_size row place.region)) refl is
 
 -- ---- the Screen
 

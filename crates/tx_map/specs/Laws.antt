@@ -1,5 +1,5 @@
 -- What holds of every map.
-use Rattle.std.specs.Prelude.{◌≡◌, ◌≤◌, ◌⊎◌, ℕ, pos, List, [], ◌∷◌, ◌++◌, Some, Ok, Err, All, unwrap_or}
+use Rattle.std.specs.Prelude.{◌≡◌, ◌≤◌, ◌⊎◌, ℕ, pos, List, [], ◌∷◌, ◌++◌, map, Some, Ok, Err, All, unwrap_or}
 use Rattle.tx_geom.specs.Along.{region_of}
 use Rattle.tx_geom.specs.Region.{Holds}
 use Rattle.tx_geom.specs.declared.choices.Axis.{Axis}
@@ -11,6 +11,7 @@ use Rattle.tx_map.specs.LayoutMap.{Place, barred_row, content_size, layout_map, 
 use Rattle.tx_map.specs.Lookup.{entry_of}
 use Rattle.tx_map.specs.Nodes.{AreOfRows, entry_count}
 use Rattle.tx_map.specs.Scene.{Scene, rows_of, scroll_of}
+use Rattle.tx_map.specs.Shown.{shown_rows}
 use Rattle.tx_map.specs.Subtrees.{barred_in, subtree_entries}
 use Rattle.tx_map.specs.declared.entry.Entry.{Entry}
 use Rattle.tx_sizes.specs.Forest.{Styled, Forest, Empty, Grown, depth}
@@ -134,3 +135,9 @@ pub record HasOneEach (entries : List Entry) : Type 0 where
 
 abbrev pub NodesHaveOneEntry : Type 0
 NodesHaveOneEntry = (scene : Scene) (entries : List Entry) → NumbersDiffer scene.rows → layout_map scene ≡ Ok entries → HasOneEach entries
+
+-- The rows that have entries, in the order of the document: the Screen, and each row that is displayed and finds room in a row that has one.
+abbrev pub ShownHaveEntries : Type 0
+ShownHaveEntries =
+    (scene : Scene) (entries : List Entry) → layout_map scene ≡ Ok entries
+    → map (λ (entry : Entry). entry.node) entries ≡ map (λ (row : Styled). row.row.node) (shown_rows (rows_of scene))

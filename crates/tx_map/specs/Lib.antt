@@ -7,6 +7,10 @@ pub mod Subtrees
 pub mod Present
 pub mod Lookup
 pub mod Nodes
+pub mod Shown
+pub mod Keys
+pub mod Moving
+pub mod Outcomes
 pub mod Laws
 pub mod Rows
 pub mod Ordinary

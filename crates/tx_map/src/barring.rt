@@ -1,13 +1,13 @@
 //! The bars of one row, and its children beside them.
 
-ghost use Rattle.std.specs.Prelude.{◌≡◌, ◌≤◌, ◌<◌, ℕ, [], length, drop, slice_index, All, IfOk};
+ghost use Rattle.std.specs.Prelude.{◌≡◌, ◌*◌, ◌≤◌, ◌<◌, ℕ, [], length, drop, slice_index, All, IfOk};
 ghost use Rattle.tx_layout.specs.Arrangement.{AreWithinReach};
 ghost use Rattle.tx_layout.specs.Ask.{IsAnswer, told};
 ghost use Rattle.tx_layout.specs.Style.{IsBoxStyle};
 ghost use Rattle.tx_look.specs.Boxes.{grid_style};
 ghost use Rattle.tx_map.specs.LayoutMap.{without_children};
 ghost use Rattle.tx_map.specs.Subtrees.{barred_in, rows_below};
-ghost use Rattle.tx_map.specs.Ticks.{ArrangedAtMost};
+ghost use Rattle.tx_map.specs.Ticks.{ArrangedAtMost, container_number};
 ghost use Rattle.tx_node_map.specs.Held.{nothing};
 ghost use Rattle.tx_read.specs.Answer.{Gives};
 ghost use Rattle.tx_scroll.specs.Bars.{barred};
@@ -130,7 +130,7 @@ pub fn bars_of<L: Ledger>(
     requires few { length behind.now ≤ 65536 }
     ensures exact { Gives (λ b. b) told result (barred_in nothing screen own.now behind.now content) }
     ensures near { IfOk result (λ b. AreWithinReach b.arrangement.placed) }
-    ensures ticks { ArrangedAtMost L.ticked 4 steps.old.ledger steps.new.ledger }
+    ensures ticks { ArrangedAtMost L.ticked (4 * container_number own.now.row) steps.old.ledger steps.new.ledger }
 {
     if !own.is_container() {
         return Ok(without_children(alloc, content));

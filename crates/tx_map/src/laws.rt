@@ -1,6 +1,9 @@
 //! What holds of every map.
 
-ghost use Rattle.tx_map.specs.Laws.{EntriesAreOfRows, NodesHaveOneEntry, RefusedAreNamed, SubtreesArrange, SubtreesAreMapped, ScreenFills, ScreenIsFirst, ScrollsAreKept, SubtreesAreClipped, ViewportsClip};
+ghost use Rattle.tx_map.specs.Keys.{KeysDiffer, KeysInOrder, ScreenAloneIsLowest};
+ghost use Rattle.tx_map.specs.Laws.{EntriesAreOfRows, NodesHaveOneEntry, RefusedAreNamed, SubtreesArrange, SubtreesAreMapped, ScreenFills, ScreenIsFirst, ScrollsAreKept, ShownHaveEntries, SubtreesAreClipped, ViewportsClip};
+ghost use Rattle.tx_map.specs.Moving.{ScrollsMove, SubtreesMove};
+ghost use Rattle.tx_map.specs.Outcomes.{FirstIsNamed};
 ghost use Rattle.tx_map.specs.Ordinary.{OrdinaryScenes};
 ghost use Rattle.tx_map.specs.OrdinarySheets.{OrdinarySheets};
 
@@ -75,6 +78,50 @@ pub fn nodes_have_one_entry()
 {
     forests_keep_their_rows();
 }
+
+/// The rows that have entries, in the order of the document, are the Screen and each row that is
+/// displayed and finds room in a row that has one. Only a child of a grid may find none, and a child
+/// of a row of a kind without children finds none. No size of a row, of an area or of the screen
+/// counts.
+pub fn shown_have_entries()
+    ensures { ShownHaveEntries }
+{
+    tx_layout::laws::celled_have_regions();
+    tx_scroll::laws::shows_the_arrangement_beside_the_bars();
+}
+
+/// No two entries of a map have one key, and only that of the Screen has the empty one.
+pub fn keys_differ()
+    ensures differ { KeysDiffer }
+    ensures lowest { ScreenAloneIsLowest }
+{}
+
+/// All rows below a row are before it. Of two children of a container that in the layer of greater
+/// number is before the other, in one layer a docked one is before those that follow others, and else
+/// the later one; and so are all rows below it before those below the other.
+pub fn keys_in_order()
+    ensures { KeysInOrder }
+{}
+
+/// A row that stands elsewhere takes the rows below it along by as much: nothing else of their
+/// entries changes but what of them can show.
+pub fn subtrees_move()
+    ensures { SubtreesMove }
+{}
+
+/// A child of a scrolled container that follows others stands where it would without the scroll, moved
+/// by exactly the scroll to the left and up, and so do the rows below it. A docked one isn't moved.
+/// Nothing else of their entries changes but what of them can show.
+pub fn scrolls_move()
+    ensures { ScrollsMove }
+{}
+
+/// Of all rows that are reached each comes to its entry or is undefined, whatever the others come to.
+/// The map has all these entries, or names the first undefined row in the order of the document. A
+/// row is reached where the row above it is and isn't undefined, and it is displayed and finds room.
+pub fn first_is_named()
+    ensures { FirstIsNamed }
+{}
 
 /// The map is always defined where the sizes in all styles have at most 9 whole digits and 3 decimals
 /// and each row has at most 1,000 children, on a screen with sides of at most 2^23 cells.

@@ -1,15 +1,14 @@
 //! The map of all rows.
 
 ghost use Rattle.std.specs.Prelude.{◌≡◌, ◌+◌, ◌*◌, ◌<◌, ◌≤◌, ◌∷◌, length, drop, slice_get, IfOk, option_copied};
-ghost use Rattle.std.specs.List.{prefix_len};
 ghost use Rattle.tx_map.specs.Faults.{told};
 ghost use Rattle.tx_map.specs.LayoutMap.{layout_map, screen_place};
 ghost use Rattle.tx_map.specs.Lookup.{AreFound, entry_of};
 ghost use Rattle.tx_map.specs.Present.{scene_of};
 ghost use Rattle.tx_map.specs.Subtrees.{IsRooted, setting, subtree_entries};
-ghost use Rattle.tx_map.specs.Ticks.{ArrangedAtMost};
+ghost use Rattle.tx_map.specs.Ticks.{ArrangedAtMost, container_count, container_number, containers_below};
 ghost use Rattle.tx_node_map.specs.Held.{held, nothing};
-ghost use Rattle.tx_sizes.specs.Counts.{counts, is_deeper};
+ghost use Rattle.tx_sizes.specs.Counts.{counts};
 ghost use Rattle.tx_read.specs.Answer.{Gives};
 
 use crate::entry::Entry;
@@ -62,7 +61,7 @@ fn entries_from<L: Ledger>(
     requires few { length behind.now ≤ 65535 }
     requires rooted { IsRooted own.now behind.now }
     ensures exact { Gives (λ entries. entries.items) told result (subtree_entries (setting nothing (held scrolls.now) size) own.now behind.now (screen_place size)) }
-    ensures ticks { ArrangedAtMost L.ticked (4 * (1 + prefix_len (is_deeper own.now.row.depth) behind.now)) steps.old.ledger steps.new.ledger }
+    ensures ticks { ArrangedAtMost L.ticked (4 * (container_number own.now.row + containers_below own.now.row.depth behind.now)) steps.old.ledger steps.new.ledger }
 {
     let screen = Region::of(Offset { x: 0, y: 0 }, size);
     let key: [u32; 0] = [];
@@ -87,6 +86,7 @@ fn entries_of<L: Ledger>(
     requires same { styles.now.rows ≡ tree.now.rows }
     ensures exact { Gives (λ entries. entries.items) told result (layout_map (scene_of styles.now (held scrolls.now) size)) }
     ensures ticks { ArrangedAtMost L.ticked (4 * length tree.now.rows) steps.old.ledger steps.new.ledger }
+    ensures containers { ArrangedAtMost L.ticked (4 * container_count tree.now.rows) steps.old.ledger steps.new.ledger }
 {
     let _root = tree.root();
     let Ok(rows) = styled_rows(alloc, tree, styles) else {
@@ -153,7 +153,8 @@ impl LayoutMap {
     /// moved by its scroll but for docked ones, and are clipped to it as far as the row's own clip
     /// shows it. A scroll is kept within what the children go over, and is 0 along a hidden axis.
     ///
-    /// At most four arrangements are made in `steps` for each row.
+    /// At most four arrangements are made in `steps` for each row of a kind that has children, and none
+    /// for others.
     ///
     /// # Errors
     ///
@@ -168,6 +169,7 @@ impl LayoutMap {
         requires same { styles.now.rows ≡ present.now.tree.now.rows }
         ensures exact { Gives (λ map. map) told result (layout_map (scene_of styles.now (held present.now.scrolls.now) present.now.size)) }
         ensures ticks { ArrangedAtMost L.ticked (4 * length present.now.tree.now.rows) steps.old.ledger steps.new.ledger }
+        ensures containers { ArrangedAtMost L.ticked (4 * container_count present.now.tree.now.rows) steps.old.ledger steps.new.ledger }
     {
         let entries = entries_of(
             alloc,

@@ -1,4 +1,5 @@
 mod application;
+mod chains;
 mod trees;
 
 use crate::{ComposeFault, Entry, LayoutMap, Present, Scrolls};

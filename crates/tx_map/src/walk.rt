@@ -1,7 +1,6 @@
 //! The walk over the rows from the Screen down.
 
 ghost use Rattle.std.specs.Prelude.{◌≡◌, ◌≤◌, ◌<◌, ◌+◌, ◌*◌, ◌^◌, [], ◌∷◌, length, drop, get_or, suc, unwrap_or, All, IfOk, IfSome};
-ghost use Rattle.std.specs.List.{prefix_len};
 ghost use Rattle.tx_geom.specs.Along.{region_of};
 ghost use Rattle.tx_geom.specs.Region.{corner};
 ghost use Rattle.tx_layout.specs.Arrangement.{AreWithinReach, IsWithinReach};
@@ -10,11 +9,11 @@ ghost use Rattle.tx_map.specs.Faults.{Adds, fault_at};
 ghost use Rattle.tx_map.specs.LayoutMap.{child_place};
 ghost use Rattle.tx_map.specs.Reach.{IsPlaceWithin, IsReached, IsHandedDown, reach};
 ghost use Rattle.tx_map.specs.Subtrees.{subtree_entries, setting, place_at, seen_container, child_entries, children_entries, regions_taken};
-ghost use Rattle.tx_map.specs.Ticks.{ArrangedAtMost};
+ghost use Rattle.tx_map.specs.Ticks.{ArrangedAtMost, container_number, containers_below};
 ghost use Rattle.tx_node_map.specs.Held.{held, nothing};
 ghost use Rattle.tx_scroll.specs.Clip.{clipped};
 ghost use Rattle.tx_scroll.specs.Scroll.{kept_scroll};
-ghost use Rattle.tx_sizes.specs.Counts.{counts, is_deeper};
+ghost use Rattle.tx_sizes.specs.Counts.{counts};
 ghost use Rattle.tx_sizes.specs.Forest.{depth};
 ghost use Rattle.tx_value.specs.StyleReads.{gutter, overflow_x, overflow_y};
 
@@ -202,7 +201,7 @@ pub fn push_row<L: Ledger>(
     requires all_deep { All (λ row. depth row ≤ 63) behind.now }
     requires near { IsReached (depth own.now) region clip }
     ensures exact { Adds found.old.items found.new.items result (subtree_entries (setting nothing (held scrolls.now) screen) own.now behind.now (place_at region clip key.now)) }
-    ensures ticks { ArrangedAtMost L.ticked (4 * (1 + prefix_len (is_deeper (depth own.now)) behind.now)) steps.old.ledger steps.new.ledger }
+    ensures ticks { ArrangedAtMost L.ticked (4 * (container_number own.now.row + containers_below (depth own.now) behind.now)) steps.old.ledger steps.new.ledger }
 {
     let row = own.row();
     let style = own.style();
@@ -257,7 +256,7 @@ fn push_children<L: Ledger>(
     requires regions { AreWithinReach regions.now }
     ensures exact { Adds found.old.items found.new.items result
         (children_entries (setting nothing (held scrolls.now) screen) frame.depth rows.now (seen_container container.now frame key.now) regions.now) }
-    ensures ticks { ArrangedAtMost L.ticked (4 * prefix_len (is_deeper frame.depth) rows.now) steps.old.ledger steps.new.ledger }
+    ensures ticks { ArrangedAtMost L.ticked (4 * containers_below frame.depth rows.now) steps.old.ledger steps.new.ledger }
 {
     let mut at: usize = 0;
     let mut used: usize = 0;
@@ -310,7 +309,7 @@ fn push_child<L: Ledger>(
     requires region { IfSome region IsWithinReach }
     ensures exact { Adds found.old.items found.new.items result
         (child_entries (setting nothing (held scrolls.now) screen) own.now behind.now (seen_container container.now frame key.now) place (region ∷ [])) }
-    ensures ticks { ArrangedAtMost L.ticked (4 * (1 + prefix_len (is_deeper (depth own.now)) behind.now)) steps.old.ledger steps.new.ledger }
+    ensures ticks { ArrangedAtMost L.ticked (4 * (container_number own.now.row + containers_below (depth own.now) behind.now)) steps.old.ledger steps.new.ledger }
 {
     if !own.is_taking_part() {
         return Ok(());

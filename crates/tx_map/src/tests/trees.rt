@@ -132,6 +132,40 @@ fn the_first_undefined_container_is_told(rt: HostRuntime) -> Result<(), Fail> {
     )
 }
 
+#[test]
+fn rows_stand_as_their_sheets_say(rt: HostRuntime) -> Result<(), Fail> {
+    let alloc = rt.alloc();
+    each_line(
+        "\
+20 4 | Screen/  Horizontal/    Static \"x\"/    Static #b \"y\" | #b { width: 3fr; } | => 1 0 0 20 4 in 0 0 20 4 view 20 4; 2.0.0.0 0 0 20 4 in 0 0 20 4 view 20 4; 3.0.0.0.0.0.0 0 0 5 1 in 0 0 20 4 view 5 1; 4.0.0.0.0.0.1 5 0 15 1 in 0 0 20 4 view 15 1
+20 10 | Screen/  Static \"abc\" | Screen { align: center middle; } Static { width: 6; height: 2; } | => 1 0 0 20 10 in 0 0 20 10 view 20 10; 2.0.0.0 7 4 6 2 in 0 0 20 10 view 6 2
+20 10 | Screen/  Static #a \"a\"/  Static #b \"b\" | Screen { align: right bottom; } #a { width: 4; } #b { width: 7; } | => 1 0 0 20 10 in 0 0 20 10 view 20 10; 2.0.0.0 13 8 4 1 in 0 0 20 10 view 4 1; 3.0.0.1 13 9 7 1 in 0 0 20 10 view 7 1
+20 10 | Screen/  Static #a \"a\"/  Static #b \"b\" | #a { margin: 1 2; } #b { margin: 3 0 0 1; } | => 1 0 0 20 10 in 0 0 20 10 view 20 10; 2.0.0.0 2 1 16 1 in 0 0 20 10 view 16 1; 3.0.0.1 1 5 19 1 in 0 0 20 10 view 19 1
+20 10 | Screen/  Static #a \"a\"/  Static \"b\" | #a { offset: 3 2; } | => 1 0 0 20 10 in 0 0 20 10 view 20 10; 2.0.0.0 3 2 20 1 in 0 0 20 10 view 20 1; 3.0.0.1 0 1 20 1 in 0 0 20 10 view 20 1
+20 6 | Screen/  Footer \"f\"/  Static #r \"r\"/  Static #s \"s\" | #r { dock: right; width: 4; margin: 1; } #s { height: 1fr; } | => 1 0 0 20 6 in 0 0 20 6 view 20 6; 2.0.1.0 0 5 20 1 in 0 0 20 6 view 20 1; 3.0.1.1 15 1 4 1 in 0 0 20 6 view 4 1; 4.0.0.2 0 0 14 5 in 0 0 20 6 view 14 5
+20 4 | Screen/  Static #a \"a\"/  Static #b \"b\" | #a { max-width: 6; } #b { width: 2; min-width: 50%; } | => 1 0 0 20 4 in 0 0 20 4 view 20 4; 2.0.0.0 0 0 6 1 in 0 0 20 4 view 6 1; 3.0.0.1 0 1 10 1 in 0 0 20 4 view 10 1
+20 6 | Screen/  Static #a \"a\" | #a { width: 4; height: 1; padding: 1 2; box-sizing: content-box; } | => 1 0 0 20 6 in 0 0 20 6 view 20 6; 2.0.0.0 0 0 8 3 in 0 0 20 6 view 4 1",
+        |line: &str| mapped(alloc, line),
+    )
+}
+
+#[test]
+fn rows_stand_in_grids_and_beside_bars(rt: HostRuntime) -> Result<(), Fail> {
+    let alloc = rt.alloc();
+    each_line(
+        "\
+20 6 | Screen/  Grid/    Static \"a\"/    Static \"b\"/    Static \"c\" | Grid { grid-size: 2; grid-gutter: 1 2; grid-rows: 2; } | => 1 0 0 20 6 in 0 0 20 6 view 20 6; 2.0.0.0 0 0 20 6 in 0 0 20 6 view 20 6; 3.0.0.0.0.0.0 0 0 9 1 in 0 0 20 6 view 9 1; 4.0.0.0.0.0.1 11 0 9 1 in 0 0 20 6 view 9 1; 5.0.0.0.0.0.2 0 3 9 1 in 0 0 20 6 view 9 1
+20 4 | Screen/  Grid/    Static #a \"a\"/    Static \"b\"/    Static \"c\" | Grid { grid-size: 2; grid-rows: 1; } #a { column-span: 2; } | => 1 0 0 20 4 in 0 0 20 4 view 20 4; 2.0.0.0 0 0 20 4 in 0 0 20 4 view 20 4; 3.0.0.0.0.0.0 0 0 20 1 in 0 0 20 4 view 20 1; 4.0.0.0.0.0.1 0 1 10 1 in 0 0 20 4 view 10 1; 5.0.0.0.0.0.2 10 1 10 1 in 0 0 20 4 view 10 1
+20 10 | Screen/  Static #a \"a\"/  Static #b \"b\" | #a { height: 30%; } #b { height: 25vh; width: 50vw; } | => 1 0 0 20 10 in 0 0 20 10 view 20 10; 2.0.0.0 0 0 20 3 in 0 0 20 10 view 20 3; 3.0.0.1 0 3 10 2 in 0 0 20 10 view 10 2
+20 4 | Screen/  Static \"a\" | Screen { overflow: hidden scroll; } | => 1 0 0 20 4 in 0 0 20 4 view 18 4 down; 2.0.0.0 0 0 18 1 in 0 0 18 4 view 18 1
+20 4 | Screen/  Static #a \"a\"/  Static \"b\" | #a { visibility: hidden; } | => 1 0 0 20 4 in 0 0 20 4 view 20 4; 2.0.0.0 0 0 20 1 in 0 0 20 4 view 20 1; 3.0.0.1 0 1 20 1 in 0 0 20 4 view 20 1
+4 4 | Screen/  Static \"ab cd ef\" | Label { } | => 1 0 0 4 4 in 0 0 4 4 view 4 4; 2.0.0.0 0 0 4 3 in 0 0 4 4 view 4 3
+20 4 | Screen/  Label \"abc\" | Static { } | => 1 0 0 20 4 in 0 0 20 4 view 20 4; 2.0.0.0 0 0 3 1 in 0 0 20 4 view 3 1
+20 4 | Screen/  Horizontal/    Static #a \"a\"/    Static #b \"b\" | #a { width: 4; dock: right; } #b { height: 50%; } | => 1 0 0 20 4 in 0 0 20 4 view 20 4; 2.0.0.0 0 0 20 4 in 0 0 20 4 view 20 4; 3.0.0.0.0.1.0 16 0 4 1 in 0 0 20 4 view 4 1; 4.0.0.0.0.0.1 0 0 16 2 in 0 0 20 4 view 16 2",
+        |line: &str| mapped(alloc, line),
+    )
+}
+
 // A container with a text of a hundred lines.
 fn long_tree(alloc: Global) -> Result<Tree, Fail> {
     let mut text = String::new(alloc);

@@ -1,7 +1,7 @@
 use Rattle.std.proofs.Common.{◌≡◌, List, ◌∷◌, drop, ◌∙◌, ap, sym, subst}
 use Rattle.tx_cascade.specs.Styles.{all_styles}
 use Rattle.tx_map.proofs.Ticking.{arranged_more}
-use Rattle.tx_map.proofs.Trees.{few_rows, map_is, rooted}
+use Rattle.tx_map.proofs.Trees.{few_arranged, map_is, own_containers, rooted}
 use Rattle.tx_map.specs.Faults.{told}
 use Rattle.tx_map.specs.LayoutMap.{Mapped}
 use Rattle.tx_map.specs.Present.{scene_of}
@@ -37,8 +37,8 @@ returns-clause-exact g c =
     ap (λ (rows : List Row). styled_rows (all_styles styles.sheet styles.state rows) rows) c.requires.same ∙ is in
     subst (λ (meant : Mapped (List Entry)). Gives (λ entries. entries.items) told c.entries_from.result meant) (sym (map_is scene own behind all)) c.entries_from.ensures.exact
 
-pub returns-clause-ticks : goal.returns-clause-ticks
-returns-clause-ticks g c =
+pub returns-clause-containers : goal.returns-clause-containers
+returns-clause-containers g c =
     let styles = c.args.styles.now in
     let own = c.first_of.result.now in
     let behind = c.behind_first.result.0.now in
@@ -46,4 +46,7 @@ returns-clause-ticks g c =
     let is : styled_rows (all_styles styles.sheet styles.state c.args.tree.now.rows) c.args.tree.now.rows ≡ own ∷ behind =
     sym c.in-Ok.ensures.exact ∙ sym c.deref-4.ensures.value ∙ c.first_of.ensures ∙ ap (λ (rs : List Styled). own ∷ drop 1 rs) same
     ∙ ap (λ (rs : List Styled). own ∷ rs) (sym c.behind_first.ensures.rows) in
-    arranged_more c.entries_from.ensures.ticks (few_rows (all_styles styles.sheet styles.state c.args.tree.now.rows) c.args.tree.now.rows own behind is)
+    arranged_more c.entries_from.ensures.ticks (own_containers (all_styles styles.sheet styles.state c.args.tree.now.rows) c.args.tree.now.rows own behind is)
+
+pub returns-clause-ticks : goal.returns-clause-ticks
+returns-clause-ticks g c = arranged_more (returns-clause-containers g c) (few_arranged c.args.tree.now.rows)

@@ -1,5 +1,4 @@
 use Rattle.std.proofs.Common.{◌≡◌, List, [], ◌∷◌, ◌++◌, length, Option, Ok, sym, ap, ◌∙◌, subst, arith}
-use Rattle.std.specs.List.{prefix_len}
 use Rattle.std.specs.Prelude.{unwrap_or}
 use Rattle.tx_geom.specs.declared.places.Region.{Region}
 use Rattle.tx_geom.specs.declared.places.Size.{Size}
@@ -7,6 +6,7 @@ use Rattle.tx_layout.specs.Ask.{told as layout_told}
 use Rattle.tx_map.specs.Faults.{Adds, fault_at, told}
 use Rattle.tx_map.specs.LayoutMap.{Mapped, docked_number, scroll_in}
 use Rattle.tx_map.specs.Subtrees.{barred_in, child_entries, place_at, seen_container, setting, subtree_entries}
+use Rattle.tx_map.specs.Ticks.{containers_below}
 use Rattle.tx_map.specs.declared.entry.Entry.{Entry}
 use Rattle.tx_map.specs.declared.fault.ComposeFault.{ComposeFault}
 use Rattle.tx_map.specs.declared.places.Frame.{Frame}
@@ -19,7 +19,6 @@ use Rattle.tx_look.specs.Layers.{layer_number}
 use Rattle.tx_node_map.specs.Held.{held, nothing}
 use Rattle.tx_read.specs.Answer.{Tells}
 use Rattle.tx_scroll.specs.Scroll.{kept_scroll}
-use Rattle.tx_sizes.specs.Counts.{is_deeper}
 use Rattle.tx_sizes.specs.Forest.{depth}
 use Rattle.tx_tree.specs.declared.row.NodeId.{NodeId}
 use Rattle.tx_tree.specs.declared.row.Row.{Row}
@@ -113,5 +112,5 @@ push_row-returns-clause-exact g t c =
 pub push_row-returns-clause-ticks : goal.push_row-returns-clause-ticks
 push_row-returns-clause-ticks g t c =
     let deep : c.frame_of-frame.result.depth ≡ depth c.args.own.now = ap (λ (f : Frame). f.depth) c.frame_of-frame.ensures.exact in
-    let later = ap (λ d. prefix_len (is_deeper d) c.args.behind.now) deep in
+    let later = ap (λ d. containers_below d c.args.behind.now) deep in
     arranged_more (arranged_both c.in-Ok.ensures.ticks c.push_children.ensures.ticks) (omega (arith, later))
