@@ -2,6 +2,8 @@ pub mod Counted
 pub mod Kept
 pub mod Steps
 pub mod Paths
+pub mod Ahead
+pub mod Climbs
 pub mod Missed
 pub mod There
 pub mod Rounds

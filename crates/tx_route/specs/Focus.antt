@@ -1,10 +1,12 @@
 -- The focus order, and the step along it.
 use Rattle.std.specs.Prelude.{ℕ, zero, suc, ◌&&◌, Bool, true, false, not, List, [], drop, filter, Option, Some, None, option_map}
+use Rattle.std.specs.List.{list_any}
 use Rattle.std.specs.Option.{option_or, option_map_or}
 use Rattle.tx_select.specs.Holds.{is_disabled}
 use Rattle.tx_select.specs.Match.{last_row}
 use Rattle.tx_tree.specs.Kind.{can_focus}
 use Rattle.tx_tree.specs.Rows.{row_at, first_row, before_of, from_of}
+use Rattle.tx_tree.specs.Walk.{rest_up_from}
 use Rattle.tx_tree.specs.declared.row.NodeId.{NodeId}
 use Rattle.tx_tree.specs.declared.row.Row.{Row}
 use Rattle.tx_widgets.specs.Frame.{FrameValue}
@@ -12,6 +14,10 @@ use Rattle.tx_widgets.specs.Frame.{FrameValue}
 -- whether a row is enabled: neither it nor an ancestor is disabled
 abbrev pub is_enabled : List Row → Row → Bool
 is_enabled rows row = not (is_disabled rows row)
+
+-- whether the row of a node, if there is one, or an ancestor of it is disabled
+unfoldable pub is_closed : List Row → Option NodeId → Bool
+is_closed rows node = list_any (λ row. row.disabled) (rest_up_from node rows)
 
 -- whether a row is in the focus order: of a focusable kind, shown and enabled
 unfoldable pub takes_focus : FrameValue → List Row → Row → Bool

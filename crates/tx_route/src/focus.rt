@@ -1,39 +1,46 @@
 //! The focus order.
 
-ghost use Rattle.std.specs.Prelude.{◌≡◌, ◌↔◌, ◌&&◌, [], true, false, None, Some, IfSome, find, filter, option_map};
+ghost use Rattle.std.specs.Prelude.{◌≡◌, ◌<◌, ◌↔◌, ◌&&◌, [], true, false, None, Some, IfSome, find, filter, option_map};
 ghost use Rattle.tx_select.specs.Match.{last_row};
 ghost use Rattle.tx_tree.specs.Row.{plain};
-ghost use Rattle.tx_tree.specs.Rows.{before_of};
+ghost use Rattle.tx_tree.specs.Rows.{before_of, next_of};
 ghost use Rattle.tx_tree.specs.Walk.{rest_from, rest_between};
-ghost use Rattle.tx_route.specs.Focus.{is_enabled, takes_focus, focus_order, step_along, is_in_order};
+ghost use Rattle.tx_route.specs.Focus.{is_closed, takes_focus, focus_order, step_along, is_in_order};
 
-use crate::enabled::is_enabled;
+use crate::above::{Above, looked_above, nothing_above};
 use tx_select::Pseudo;
 use tx_tree::{NodeId, Row, Tree};
 use tx_widgets::Sight;
 
-/// Whether a row is shown and enabled.
-fn is_open<S: Sight>(tree: &Tree, sight: &S, row: &Row) -> bool
-    ensures { result ≡ ((S.frame sight.now).shown row.now.node && is_enabled tree.now.rows (plain row.now)) }
+/// Whether a row is in the focus order, by what is known of the rows above another one.
+#[tactic(auto, unfolding(crate::specs::Focus::takes_focus, tx_select::specs::Holds::is_disabled))]
+fn takes_focus<S: Sight>(tree: &Tree, sight: &S, row: &Row, above: &mut Above) -> bool
+    requires { above.old.disabled ≡ is_closed tree.now.rows above.old.parent }
+    ensures known { above.new.disabled ≡ is_closed tree.now.rows above.new.parent }
+    ensures told { result ≡ takes_focus (S.frame sight.now) tree.now.rows (plain row.now) }
 {
-    sight.shown(row.node) && is_enabled(tree, row)
+    if !row.kind.can_focus() {
+        return false;
+    }
+    if !sight.shown(row.node) {
+        return false;
+    }
+    if row.disabled {
+        return false;
+    }
+    *above = looked_above(tree, row.node, *above);
+    !above.disabled
 }
 
-/// Whether a row is in the focus order: of a focusable kind, shown and enabled.
-#[tactic(auto, unfolding(crate::specs::Focus::takes_focus))]
-fn takes_focus<S: Sight>(tree: &Tree, sight: &S, row: &Row) -> bool
-    ensures { result ≡ takes_focus (S.frame sight.now) tree.now.rows (plain row.now) }
-{
-    row.kind.can_focus() && is_open(tree, sight, row)
-}
-
-/// Whether a node's row is in the focus order.
+/// Whether a node's row is in the focus order, in the same way.
 #[tactic(auto, unfolding(crate::specs::Focus::is_in_order))]
-fn is_in_order<S: Sight>(tree: &Tree, sight: &S, node: NodeId) -> bool
-    ensures { result ≡ is_in_order (S.frame sight.now) tree.now.rows node.0 }
+fn is_in_order<S: Sight>(tree: &Tree, sight: &S, node: NodeId, above: &mut Above) -> bool
+    requires { above.old.disabled ≡ is_closed tree.now.rows above.old.parent }
+    ensures known { above.new.disabled ≡ is_closed tree.now.rows above.new.parent }
+    ensures told { result ≡ is_in_order (S.frame sight.now) tree.now.rows node.0 }
 {
     match tree.row(node) {
-        Some(row) => takes_focus(tree, sight, row),
+        Some(row) => takes_focus(tree, sight, row, above),
         None => false,
     }
 }
@@ -45,11 +52,12 @@ fn first_from<S: Sight>(tree: &Tree, sight: &S, from: Option<NodeId>) -> Option<
     tx_tree::laws::walk();
     let _root = tree.root();
     let mut here = from;
+    let mut above = nothing_above(tree);
     while let Some(node) = here {
         let Some(row) = tree.row(node) else {
             return None;
         };
-        if takes_focus(tree, sight, row) {
+        if takes_focus(tree, sight, row, &mut above) {
             return Some(row.node);
         }
         here = tree.next(node);
@@ -70,6 +78,7 @@ fn last_between<S: Sight>(
     let _root = tree.root();
     let mut last = None;
     let mut here = from;
+    let mut above = nothing_above(tree);
     while let Some(node) = here {
         if here == end {
             return last;
@@ -77,7 +86,7 @@ fn last_between<S: Sight>(
         let Some(row) = tree.row(node) else {
             return last;
         };
-        if takes_focus(tree, sight, row) {
+        if takes_focus(tree, sight, row, &mut above) {
             last = Some(row.node);
         }
         here = tree.next(node);
@@ -87,7 +96,7 @@ fn last_between<S: Sight>(
 
 /// The last row of the focus order before a node: it is looked for below the node's parent, then
 /// at the parent, and so on upwards.
-fn last_before<S: Sight>(tree: &Tree, sight: &S, node: NodeId) -> Option<NodeId>
+fn last_above<S: Sight>(tree: &Tree, sight: &S, node: NodeId) -> Option<NodeId>
     ensures { result ≡ option_map (λ row. row.node) (last_row (filter (takes_focus (S.frame sight.now) tree.now.rows) (before_of node.0 tree.now.rows))) }
 {
     let mut here = node;
@@ -99,6 +108,42 @@ fn last_before<S: Sight>(tree: &Tree, sight: &S, node: NodeId) -> Option<NodeId>
         here = parent;
     }
     last_between(tree, sight, Some(tree.root()), Some(here))
+}
+
+/// The row before a node, where it has the number before the node's: so it is wherever rows were
+/// mounted in document order.
+fn row_ahead(tree: &Tree, node: NodeId) -> Option<NodeId>
+    ensures ahead { IfSome result (λ ahead. option_map (λ row. row.node.0) (next_of ahead.0 tree.now.rows) ≡ Some node.0) }
+    ensures down { IfSome result (λ ahead. ahead.0 < node.0) }
+{
+    if node.0 == 0 {
+        return None;
+    }
+    let ahead = NodeId(node.0 - 1);
+    let Some(next) = tree.next(ahead) else {
+        return None;
+    };
+    if next.0 != node.0 {
+        return None;
+    }
+    Some(ahead)
+}
+
+/// The last row of the focus order before a node. Rows are gone back over one by one as long as
+/// each has the number before the next one's.
+fn last_before<S: Sight>(tree: &Tree, sight: &S, node: NodeId) -> Option<NodeId>
+    ensures { result ≡ option_map (λ row. row.node) (last_row (filter (takes_focus (S.frame sight.now) tree.now.rows) (before_of node.0 tree.now.rows))) }
+{
+    let _root = tree.root();
+    let mut here = node;
+    let mut above = nothing_above(tree);
+    while let Some(ahead) = row_ahead(tree, here) {
+        if is_in_order(tree, sight, ahead, &mut above) {
+            return Some(ahead);
+        }
+        here = ahead;
+    }
+    last_above(tree, sight, here)
 }
 
 /// The row after a node, or else the first.
@@ -150,7 +195,8 @@ fn step_from<S: Sight>(
     let Some(node) = focused else {
         return end_row(tree, sight, back);
     };
-    if !is_in_order(tree, sight, node) {
+    let mut above = nothing_above(tree);
+    if !is_in_order(tree, sight, node, &mut above) {
         return end_row(tree, sight, back);
     }
     if back {

@@ -5,6 +5,7 @@
 //! the binding that counts. None of them takes memory, and nothing is changed.
 #![tactic(auto)]
 
+mod above;
 mod bindings;
 mod changing;
 mod deliveries;

@@ -9,5 +9,5 @@ returns-then-not-is_in_order g c =
     let rows = c.args.tree.now.rows in
     let frame = g.S.Sight.frame c.args.sight.now in
     c.end_row-then-not-is_in_order.ensures
-    ∙ (sym (outside (takes_focus frame rows) c.args.back rows c.root-root.ensures.known.once c.in-Some.node (sym c.is_in_order.ensures ∙ c.if-not-is_in_order.true))
+    ∙ (sym (outside (takes_focus frame rows) c.args.back rows c.root-root.ensures.known.once c.in-Some.node (sym c.is_in_order.ensures.told ∙ c.if-not-is_in_order.true))
     ∙ sym (ap (step_along c.args.back (focus_order frame rows)) c.in-Some.is))
