@@ -3,4 +3,6 @@ mod Owning
 mod Mapping
 mod Looking
 mod Keeping
+mod EditLaws
+mod FrameLaws
 mod Unscrolled

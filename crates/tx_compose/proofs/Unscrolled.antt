@@ -4,16 +4,16 @@ use Rattle.std.proofs.lemmas.Bool.{cases_Bool, eqb-true, false≢true}
 use Rattle.std.proofs.lemmas.List.Elements.{All-cons, All-nil}
 use Rattle.std.specs.List.{find, list_any}
 use Rattle.std.specs.Prelude.{◌==◌, ◌||◌, not, option_map, unwrap_or, if◌then◌else◌}
-use Rattle.tx_cascade.specs.Edits.{Leads, RowLeads, RowsLead, StateLeads}
+use Rattle.tx_cascade.specs.Edits.{Leads}
 use Rattle.tx_cascade.specs.declared.edit.Edit.{Edit}
 use Rattle.tx_cascade.specs.declared.edit.Edit.TheVariants.{Resized}
+use Rattle.tx_compose.proofs.EditLaws.{leads_more}
 use Rattle.tx_compose.specs.Following.{EditsLead, ScrollsLead, kept_scroll, scroll_for}
 use Rattle.tx_compose.specs.Frame.{entry_in, reported_entry}
 use Rattle.tx_compose.specs.Presented.{Presented}
 use Rattle.tx_compose.specs.ScrollsKept.{differs, is_out}
 use Rattle.tx_node_map.specs.Held.{held}
 use Rattle.tx_picture.specs.Given.{AreBuiltIn}
-use Rattle.tx_select.specs.declared.value.Pseudo.{Pseudo}
 use Rattle.tx_tree.specs.Kind.{is_handed}
 use Rattle.tx_tree.specs.Row.{has_number}
 use Rattle.tx_tree.specs.Rows.{row_at}
@@ -60,43 +60,13 @@ kept_by (Some kept) scroll is =
     let y : kept.1 ≡ scroll.1 = same_by kept.1 scroll.1 parts.1 in
     ap₂ paired x y
 
-row_leads : (n : ℕ) (old new : Row) → RowLeads [] n old new → RowLeads (Resized ∷ []) n old new
-row_leads n old new l =
-    record {
-      classes = l.classes;
-      text = l.text;
-      inline = l.inline;
-      disabled = l.disabled;
-      private = l.private;
-      kind = l.kind;
-      id = l.id;
-      depth = l.depth;
-      binds = l.binds;
-    }
-
-rows_lead : (old new : List Row) → RowsLead [] old new → RowsLead (Resized ∷ []) old new
-rows_lead old new l =
-    record {
-      kept = λ n before after a b. row_leads n before after (l.kept n before after a b);
-      mounted = l.mounted;
-      removed = l.removed;
-      parents = l.parents;
-      moved = l.moved;
-    }
-
-state_leads : (old new : Pseudo) → StateLeads [] old new → StateLeads (Resized ∷ []) old new
-state_leads old new l = record { focused = l.focused; pointed = l.pointed; dark = l.dark }
-
-leads : (old new : List Row) (before after : Pseudo) → Leads [] old before new after → Leads (Resized ∷ []) old before new after
-leads old new before after l = record { rows_lead = rows_lead old new l.rows_lead; state_leads = state_leads before after l.state_leads }
-
 pub goes_on : (goes : Bool) (accepted : Option Presented) (before after : Presented) → accepted ≡ Some before → before.rows ≡ after.rows → before.scrolls ≡ after.scrolls
     → Leads [] before.rows before.pseudo after.rows after.pseudo → list_any (is_out accepted after.scrolls) after.rows ≡ false → (other : Presented) → goes ≡ true → accepted ≡ Some other → EditsLead (Resized ∷ []) other after
 goes_on goes accepted before after was rows scrolls l none other on is =
     let same : before ≡ other = (let e : Some before ≡ Some other = sym was ∙ is in cc) in
     subst (λ (p : Presented). EditsLead (Resized ∷ []) p after) same
     (record {
-      rows = leads before.rows after.rows before.pseudo after.pseudo l;
+      rows = leads_more Resized [] before.rows after.rows before.pseudo after.pseudo l;
       scrolls = λ n old new a b named.
           let out = fails (is_out accepted after.scrolls) (has_number n) after.rows new none b in
           let out_then : differs (option_map (λ entry. entry.scroll) (entry_in before new.node)) (scroll_for after new.node) ≡ false =

@@ -7,3 +7,5 @@ pub mod Kept
 pub mod Ticks
 pub mod Sight
 pub mod ScrollsKept
+pub mod EditLaws
+pub mod FrameLaws

@@ -4,6 +4,7 @@
 
 mod composing;
 mod frame;
+pub mod laws;
 mod screen;
 mod seen;
 mod sight;

@@ -1,5 +1,8 @@
 mod application;
+mod gallery;
+mod marks;
 mod reads;
+mod refreshes;
 
 ghost use Rattle.std.specs.Prelude.{◌≡◌, true, false, Some, None, IfOk, OnOk, unwrap_or};
 ghost use Rattle.std.specs.List.{list_any};
@@ -13,10 +16,12 @@ use std::alloc::Global;
 use std::test::Fail;
 use tx_cascade::Edit;
 use tx_cascade::laws::edits_lead;
+use tx_cell::{Cell, Grid, Pen};
 use tx_geom::{Region, Size};
-use tx_io::{Counted, Steps};
+use tx_io::{Counted, MemorySink, Steps};
 use tx_select::Pseudo;
-use tx_test_kit::sheet_of;
+use tx_term::{Terminal, present};
+use tx_test_kit::{lines_of, number_of, pair_of, sheet_of, tree_of};
 use tx_tree::{Kind, NodeId, Row, Tree};
 
 pub const STILL: Pseudo = Pseudo {
@@ -24,16 +29,6 @@ pub const STILL: Pseudo = Pseudo {
     pointed: None,
     dark: true,
 };
-
-// A text with line feeds in place of `/`, and one at its end.
-pub fn lines_of(alloc: Global, text: &str) -> Result<String, Fail> {
-    let mut lines = String::new(alloc);
-    for line in text.split('/') {
-        lines.push_str(line)?;
-        lines.push_str("\n")?;
-    }
-    Ok(lines)
-}
 
 // Scrolls in which nothing is said of any row but the first, which is scrolled down so far.
 pub fn scrolled_down(alloc: Global, rows: u32) -> Result<Scrolls, Fail> {
@@ -81,6 +76,24 @@ pub fn opened(alloc: Global, sheet: &str, size: Size) -> Result<Screen, Fail>
 }
 
 // What a refresh that starts from nothing answers.
+pub fn anew_in(
+    screen: &mut Screen,
+    present: &Present<'_>,
+    steps: &mut Steps<Counted>,
+) -> Result<Result<(), ComposeFault>, Fail>
+    requires { screen.old.goes_on ≡ false }
+    ensures fresh { screen.new.goes_on ≡ false }
+    ensures sheet { screen.new.sheet ≡ screen.old.sheet }
+    ensures kept { screen.new.accepted ≡ screen.old.accepted }
+    ensures shown { IfOk result (λ told. OnOk told (screen.new.next ≡ Some (presented screen.old.sheet present.now.tree.now.rows present.now.pseudo.now present.now.scrolls.now present.now.size))) }
+{
+    if !is_screen(present.size) || has_handed(present.tree) {
+        return Err(Fail::from("a size or a tree"));
+    }
+    Ok(screen.refresh(present, &[], steps))
+}
+
+// What a refresh that starts from nothing answers, where no row has the focus.
 pub fn anew(
     screen: &mut Screen,
     tree: &Tree,
@@ -94,9 +107,6 @@ pub fn anew(
     ensures kept { screen.new.accepted ≡ screen.old.accepted }
     ensures shown { IfOk result (λ told. OnOk told (screen.new.next ≡ Some (presented screen.old.sheet tree.now.rows STILL scrolls.now size))) }
 {
-    if !is_screen(size) || has_handed(tree) {
-        return Err(Fail::from("a size or a tree"));
-    }
     let pseudo = STILL;
     let present = Present {
         tree,
@@ -104,7 +114,7 @@ pub fn anew(
         scrolls,
         size,
     };
-    Ok(screen.refresh(&present, &[], steps))
+    anew_in(screen, &present, steps)
 }
 
 // A refresh from nothing that is fine, and accepted.
@@ -191,6 +201,84 @@ pub fn resized(
         ledger: Counted::default(),
     };
     Ok(screen.refresh(&present, &[Edit::Resized], &mut steps))
+}
+
+// What is said of the state: `light`, `focus NODE`, or nothing.
+fn pseudo_of(text: &str) -> Result<Pseudo, Fail> {
+    let mut pseudo = STILL;
+    pseudo.dark = text != "light";
+    if let Some(node) = text.strip_prefix("focus ") {
+        pseudo.focused = Some(NodeId(number_of(node)?));
+    }
+    Ok(pseudo)
+}
+
+// How far the Screen is scrolled: `scroll COLUMNS ROWS`, or not at all.
+fn scrolls_of(alloc: Global, text: &str) -> Result<Scrolls, Fail> {
+    let mut scrolls = Scrolls::new(alloc);
+    if let Some(places) = text.strip_prefix("scroll ") {
+        scrolls.insert(NodeId(1), pair_of(places)?)?;
+    }
+    Ok(scrolls)
+}
+
+// The screen that shows a tree under a sheet in a state.
+fn screen_of(
+    alloc: Global,
+    rows: &str,
+    sheet: &str,
+    state: &str,
+    size: Size,
+) -> Result<Screen, Fail> {
+    let tree = tree_of(alloc, lines_of(alloc, rows)?.as_str())?;
+    let mut screen = opened(alloc, sheet, size)?;
+    let pseudo = pseudo_of(state)?;
+    let scrolls = scrolls_of(alloc, state)?;
+    let present = Present {
+        tree: &tree,
+        pseudo: &pseudo,
+        scrolls: &scrolls,
+        size,
+    };
+    shown_on(&mut screen, &present)?;
+    Ok(screen)
+}
+
+// Shows what is present on a screen that nothing was shown on.
+fn shown_on(screen: &mut Screen, present: &Present<'_>) -> Result<(), Fail>
+    requires { screen.old.goes_on ≡ false }
+{
+    let mut steps = Steps {
+        ledger: Counted::default(),
+    };
+    match anew_in(screen, present, &mut steps)? {
+        Ok(()) => Ok(()),
+        Err(_) => Err(Fail::from("a refresh")),
+    }
+}
+
+// A terminal that has read the whole update to a grid.
+fn terminal_of(alloc: Global, next: &Grid) -> Result<Terminal, Fail> {
+    let size = next.size();
+    if !is_screen(size) {
+        return Err(Fail::from("a size"));
+    }
+    let mut terminal = Terminal::open(alloc, size)?;
+    let mut shown = Grid::open(alloc, size, Cell::blank(Pen::WHITE_ON_BLACK))?;
+    let mut sink = MemorySink::new(alloc, Vec::new(alloc));
+    let _sent = present(&mut shown, next, true, &mut sink);
+    terminal.feed(sink.taken());
+    Ok(terminal)
+}
+
+// The terminal on which a line is shown: a size, a tree, a sheet and the state, between ` | `.
+pub fn terminal_by(alloc: Global, line: &str) -> Result<Terminal, Fail> {
+    let (size, rest) = line.split_once(" | ").ok_or("a size")?;
+    let (rows, rest) = rest.split_once(" | ").ok_or("a tree")?;
+    let (sheet, state) = rest.split_once(" |").ok_or("a sheet")?;
+    let (width, height) = pair_of(size)?;
+    let screen = screen_of(alloc, rows, sheet, state, Size { width, height })?;
+    terminal_of(alloc, screen.next())
 }
 
 // A region as `X Y WIDTH HEIGHT`, or nothing.

@@ -11,34 +11,15 @@ use crate::picture_of;
 use std::alloc::Global;
 use std::test::Fail;
 use tx_cascade::Styles;
-use tx_cell::{Cell, Grid};
+use tx_cell::Grid;
 use tx_geom::{Rgb, Size};
 use tx_io::{Counted, Steps};
 use tx_map::{LayoutMap, Present, Scrolls};
 use tx_owner::Owners;
 use tx_parse::Sheet;
 use tx_select::Pseudo;
-use tx_test_kit::{sheet_of, tree_of};
+use tx_test_kit::{lines_of, number_of, pair_of, sheet_of, tree_of};
 use tx_tree::{Kind, NodeId, Tree};
-
-// A text with line feeds in place of `/`, and one at its end.
-fn lines_of(alloc: Global, text: &str) -> Result<String, Fail> {
-    let mut lines = String::new(alloc);
-    for line in text.split('/') {
-        lines.push_str(line)?;
-        lines.push_str("\n")?;
-    }
-    Ok(lines)
-}
-
-fn number_of(word: &str) -> Result<u32, Fail> {
-    Ok(word.parse::<u32>().ok().ok_or("a number")?)
-}
-
-fn pair_of(text: &str) -> Result<(u32, u32), Fail> {
-    let (first, second) = text.split_once(' ').ok_or("two numbers")?;
-    Ok((number_of(first)?, number_of(second)?))
-}
 
 // Scrolls by nodes: `NODE:COLUMNS ROWS`.
 fn scrolls_of(alloc: Global, text: &str) -> Result<Scrolls, Fail> {
@@ -154,34 +135,6 @@ fn picture_by(alloc: Global, line: &str) -> Result<(Grid, u64), Fail> {
         &scrolls,
         Size { width, height },
     )
-}
-
-// Adds a cell: a blank is a point, a tail `_`, and a quote stands behind what is reversed.
-fn push_cell(out: &mut String, cell: &Cell) -> Result<(), Fail> {
-    let text = match cell.text() {
-        " " => ".",
-        "" => "_",
-        other => other,
-    };
-    out.push_str(text)?;
-    if cell.pen().style.reverse {
-        out.push_str("'")?;
-    }
-    Ok(())
-}
-
-// The cells of a picture, with `/` between its lines.
-fn cells_text(alloc: Global, grid: &Grid) -> Result<String, Fail> {
-    let mut out = String::new(alloc);
-    for y in 0..grid.size().height {
-        if y > 0 {
-            out.push_str("/")?;
-        }
-        for cell in grid.row(y) {
-            push_cell(&mut out, cell)?;
-        }
-    }
-    Ok(out)
 }
 
 fn colour_text(alloc: Global, colour: Rgb) -> Result<String, Fail> {

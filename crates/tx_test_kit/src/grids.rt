@@ -51,3 +51,32 @@ pub fn grid_text(alloc: Global, grid: &Grid) -> Result<String, AllocError> {
     }
     Ok(out)
 }
+
+/// Adds a cell: a blank is a point, a tail `_`, and a quote stands after what is reversed.
+fn push_cell(out: &mut String, cell: &Cell) -> Result<(), AllocError> {
+    let text = match cell.text() {
+        " " => ".",
+        "" => "_",
+        other => other,
+    };
+    out.push_str(text)?;
+    if cell.pen().style.reverse {
+        out.push_str("'")?;
+    }
+    Ok(())
+}
+
+/// A grid's cells, with `/` between its rows: a blank is a point, a tail `_`, and a quote stands after
+/// each cell whose colours are exchanged.
+pub fn cells_text(alloc: Global, grid: &Grid) -> Result<String, AllocError> {
+    let mut out = String::new(alloc);
+    for y in 0..grid.size().height {
+        if y > 0 {
+            out.push_str("/")?;
+        }
+        for cell in grid.row(y) {
+            push_cell(&mut out, cell)?;
+        }
+    }
+    Ok(out)
+}

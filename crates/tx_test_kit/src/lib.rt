@@ -9,5 +9,5 @@ mod tests;
 mod texts;
 
 pub use files::{files_of, words_of};
-pub use grids::{grid_of, grid_text};
-pub use texts::{sheet_of, tree_of, tree_text};
+pub use grids::{cells_text, grid_of, grid_text};
+pub use texts::{lines_of, number_of, pair_of, sheet_of, tree_of, tree_text};

@@ -1,4 +1,4 @@
-use crate::{files_of, grid_of, grid_text, sheet_of, tree_of, tree_text, words_of};
+use crate::{cells_text, files_of, grid_of, grid_text, lines_of, number_of, pair_of, sheet_of, tree_of, tree_text, words_of};
 use std::test::Fail;
 use tx_cell::Pen;
 use tx_expect::expect;
@@ -40,4 +40,26 @@ fn words_and_files_are_made_of_texts(rt: HostRuntime) -> Result<(), Fail> {
         expect(found == wanted, "a load")?;
     }
     Ok(())
+}
+
+#[test]
+fn grids_are_shown_by_their_cells(rt: HostRuntime) -> Result<(), Fail> {
+    let alloc = rt.alloc();
+    let size = Size {
+        width: 3,
+        height: 2,
+    };
+    let mut pen = Pen::WHITE_ON_BLACK;
+    pen.style.reverse = true;
+    let grid = grid_of(alloc, size, "a\n\u{4e16}", pen)?;
+    let text = cells_text(alloc, &grid)?;
+    expect(text.as_str() == "a'.'.'/\u{4e16}'_'.'", "a grid's cells")
+}
+
+#[test]
+fn words_are_numbers(rt: HostRuntime) -> Result<(), Fail> {
+    let lines = lines_of(rt.alloc(), "ab//c")?;
+    expect(lines.as_str() == "ab\n\nc\n", "three lines")?;
+    expect(pair_of("12 0")? == (12, 0), "two numbers")?;
+    expect(number_of("x").is_err(), "no number")
 }

@@ -3,7 +3,7 @@ ghost use Rattle.std.specs.Prelude.{◌≡◌, IfOk, string_bytes};
 ghost use Rattle.tx_tree_file.specs.Spelling.{spelling};
 ghost use Rattle.tx_tree_file.specs.TreeFile.{IsReading};
 
-use std::alloc::Global;
+use std::alloc::{AllocError, Global};
 use std::str;
 use std::test::Fail;
 use tx_expect::expect;
@@ -13,6 +13,27 @@ use tx_tree_file::{read_tree, write_tree};
 
 /// More bytes than a text of a test has.
 const MOST_BYTES: usize = 1_000_000;
+
+/// A text with line feeds in place of `/`, and one at its end.
+pub fn lines_of(alloc: Global, text: &str) -> Result<String, AllocError> {
+    let mut lines = String::new(alloc);
+    for line in text.split('/') {
+        lines.push_str(line)?;
+        lines.push_str("\n")?;
+    }
+    Ok(lines)
+}
+
+/// The number that a word of decimal digits is.
+pub fn number_of(word: &str) -> Result<u32, Fail> {
+    Ok(word.parse::<u32>().ok().ok_or("a number")?)
+}
+
+/// The numbers of two words with a blank between them.
+pub fn pair_of(text: &str) -> Result<(u32, u32), Fail> {
+    let (first, second) = text.split_once(' ').ok_or("two numbers")?;
+    Ok((number_of(first)?, number_of(second)?))
+}
 
 /// The tree that a tree file's text spells. It fails where that is none.
 pub fn tree_of(alloc: Global, text: &str) -> Result<Tree, Fail>

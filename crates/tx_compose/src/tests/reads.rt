@@ -1,19 +1,15 @@
 //! What the frame of a picture reports.
 
-use super::{accepted, cell_text, lines_of, opened, region_text};
+use super::{accepted, cell_text, opened, region_text};
 use crate::{Screen, Scrolls};
 use std::alloc::Global;
 use std::rt::HostRuntime;
 use std::test::Fail;
 use tx_expect::{each_line, expect};
 use tx_geom::Size;
-use tx_test_kit::{grid_text, tree_of};
+use tx_test_kit::{grid_text, lines_of, number_of, tree_of};
 use tx_tree::NodeId;
 use tx_widgets::Sight;
-
-fn number_of(word: &str) -> Result<u32, Fail> {
-    Ok(word.parse::<u32>().ok().ok_or("a number")?)
-}
 
 // A screen of 8 by 4 on which a tree under a sheet is shown, its first row scrolled down by 9.
 fn shown(alloc: Global, rows: &str, sheet: &str) -> Result<Screen, Fail> {

@@ -8,27 +8,8 @@ use std::test::Fail;
 use tx_expect::{each_line, expect};
 use tx_geom::Size;
 use tx_map::{LayoutMap, Scrolls};
-use tx_test_kit::{sheet_of, tree_of};
+use tx_test_kit::{lines_of, number_of, pair_of, sheet_of, tree_of};
 use tx_tree::NodeId;
-
-// A text with line feeds in place of `/`, and one at its end.
-fn lines_of(alloc: Global, text: &str) -> Result<String, Fail> {
-    let mut lines = String::new(alloc);
-    for line in text.split('/') {
-        lines.push_str(line)?;
-        lines.push_str("\n")?;
-    }
-    Ok(lines)
-}
-
-fn number_of(word: &str) -> Result<u32, Fail> {
-    Ok(word.parse::<u32>().ok().ok_or("a number")?)
-}
-
-fn pair_of(text: &str) -> Result<(u32, u32), Fail> {
-    let (first, second) = text.split_once(' ').ok_or("two numbers")?;
-    Ok((number_of(first)?, number_of(second)?))
-}
 
 // How many rows the Screen is scrolled down.
 fn scrolls_of(alloc: Global, text: &str) -> Result<Scrolls, Fail> {

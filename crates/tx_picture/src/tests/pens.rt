@@ -1,10 +1,11 @@
 //! The pens of cells of pictures.
 
-use super::{colour_text, number_of, pair_of, picture_by};
+use super::{colour_text, picture_by};
 use std::alloc::Global;
 use std::rt::HostRuntime;
 use std::test::Fail;
 use tx_expect::each_line;
+use tx_test_kit::pair_of;
 
 // The fore and the back of a cell: `X Y : ` stands before what the picture is made of.
 fn pen_at(alloc: Global, line: &str) -> Result<String, Fail> {

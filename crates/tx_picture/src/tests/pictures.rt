@@ -1,10 +1,11 @@
 //! Pictures as text.
 
-use super::{cells_text, picture_by};
+use super::picture_by;
 use std::alloc::Global;
 use std::rt::HostRuntime;
 use std::test::Fail;
 use tx_expect::{each_line, expect};
+use tx_test_kit::cells_text;
 
 // The cells of a picture; each is counted once.
 fn shown(alloc: Global, line: &str) -> Result<String, Fail> {
@@ -14,7 +15,7 @@ fn shown(alloc: Global, line: &str) -> Result<String, Fail> {
         count == size.width as u64 * size.height as u64,
         "each cell is counted once",
     )?;
-    cells_text(alloc, &grid)
+    Ok(cells_text(alloc, &grid)?)
 }
 
 #[test]
