@@ -17,7 +17,7 @@ BEGIN {
         show_place()
     }
     printf "%s: %s\n", kind, comes[kind]
-    if (line == 0 || kind == "Unbuilt") say_instead(instead[kind])
+    if (line == 0 || kind == "Inline" || kind == "NoCustom") say_instead(instead[kind])
     else if (document ~ /tcss\.md$/) explain_sheet()
     else if (document ~ /tree-file\.md$/) explain_tree()
     else say_instead(instead[kind])

@@ -1,6 +1,9 @@
 -- What the causes of a run say.
-use Rattle.std.proofs.Common.{◌≡◌, ℕ, zero, suc, Bool, true, false, cond, List, [], ◌∷◌, Option, None, Some, refl, inl, inr, ap, sym, ◌∙◌, arith, subst, zero-add, IfSome, Ok, Err}
+use Rattle.std.proofs.Common.{◌≡◌, ℕ, zero, suc, Bool, true, false, cond, List, [], ◌∷◌, Option, None, Some, refl, inl, inr, ap, sym, ◌∙◌, arith, subst, zero-add, IfSome, IsOk, Result, Ok, Err}
+use Rattle.std.proofs.lemmas.Bool.{false≢true}
 use Rattle.std.proofs.Math.Dec.{eqb-suc-zero}
+use Rattle.tx_cell.specs.Grid.{GridValue}
+use Rattle.tx_compose.specs.Presented.{Presented, composed}
 use Rattle.tx_io.specs.declared.files.LoadFault.TheVariants.{Failed, TooLong as PastLimit, NoMemory as NoRoom}
 use Rattle.tx_io.specs.declared.send.Sent.{Sent}
 use Rattle.tx_io.specs.Faults.{raised, Rose}
@@ -13,12 +16,12 @@ use Rattle.tx_app.specs.Openings.{Opening, Stops, Opens, Prints, Finds, ComesTo}
 use Rattle.tx_app.specs.Loads.{file_limit}
 use Rattle.tx_app.specs.Plan.{Plan, Misuse, Unjudged, Refuse, Read, Open, Print, Find, opening_of, loads_of, AreOfFiles}
 use Rattle.tx_app.specs.Plans.{plan_of, plan_of_words, IsPlanned, counted}
-use Rattle.tx_app.specs.Course.{Act, Unmade, Updates, Closes, Writes, IsRefresh, IsPrinted, IsCourse, faults_of}
-use Rattle.tx_app.specs.Causes.{End, Wanting, Failures, end_of, end_cause, sink_cause, cause_of}
+use Rattle.tx_app.specs.Course.{Act, Unmade, Undefined, Updates, Closes, Writes, IsRefresh, IsPrinted, IsCourse, faults_of}
+use Rattle.tx_app.specs.Causes.{End, Wanting, Broken, Failures, end_of, end_cause, sink_cause, cause_of}
 use Rattle.tx_app.specs.Faults.{CausedBy, IsHeld, Accepts, IsComplete, IsNoneOrMemory, SheetsAreAccepted, read_faults, sink_faults}
 use Rattle.tx_app.specs.Run.{Runs}
 use Rattle.tx_app.specs.declared.causes.Cause.{Cause}
-use Rattle.tx_app.specs.declared.causes.Cause.TheVariants.{Usage, Refused, ReadFault, SinkFault, NoMemory}
+use Rattle.tx_app.specs.declared.causes.Cause.TheVariants.{Usage, Refused, ReadFault, Fraction, SinkFault, NoMemory}
 use Rattle.tx_app.specs.declared.journal.Entry.{Entry}
 
 -- ---- loads that failed
@@ -28,9 +31,10 @@ abbrev read_failures : Opening → ℕ
 read_failures (Stops Usage) = 0
 read_failures (Stops (Refused file line column kind)) = 0
 read_failures (Stops (ReadFault rose)) = rose
+read_failures (Stops (Fraction node axis)) = 0
 read_failures (Stops (SinkFault rose)) = 0
 read_failures (Stops NoMemory) = 0
-read_failures (Opens scene) = 0
+read_failures (Opens shown) = 0
 read_failures (Prints lines) = 0
 read_failures (Finds rows selector) = 0
 
@@ -43,7 +47,7 @@ loads-failures (Read name limit next) (Ok bytes ∷ answers) = zero-add (failed_
 loads-failures (Read name limit next) (Err Failed ∷ answers) = refl
 loads-failures (Read name limit next) (Err PastLimit ∷ answers) = refl
 loads-failures (Read name limit next) (Err NoRoom ∷ answers) = refl
-loads-failures (Open scene) answers = refl
+loads-failures (Open shown) answers = refl
 loads-failures (Print lines) answers = refl
 loads-failures (Find rows selector) answers = refl
 
@@ -57,9 +61,10 @@ abbrev OfReading : Opening → Type 0
 OfReading (Stops Usage) = Unit {0}
 OfReading (Stops (Refused file line column kind)) = Unit {0}
 OfReading (Stops (ReadFault rose)) = rose ≡ 1
+OfReading (Stops (Fraction node axis)) = ⊥
 OfReading (Stops (SinkFault rose)) = ⊥
 OfReading (Stops NoMemory) = Unit {0}
-OfReading (Opens scene) = Unit {0}
+OfReading (Opens shown) = Unit {0}
 OfReading (Prints lines) = Unit {0}
 OfReading (Finds rows selector) = Unit {0}
 
@@ -72,7 +77,7 @@ opening-of_reading (Read name limit next) (Ok bytes ∷ answers) = opening-of_re
 opening-of_reading (Read name limit next) (Err Failed ∷ answers) = refl
 opening-of_reading (Read name limit next) (Err PastLimit ∷ answers) = tt
 opening-of_reading (Read name limit next) (Err NoRoom ∷ answers) = tt
-opening-of_reading (Open scene) answers = tt
+opening-of_reading (Open shown) answers = tt
 opening-of_reading (Print lines) answers = tt
 opening-of_reading (Find rows selector) answers = tt
 
@@ -99,14 +104,16 @@ sink_cause-free (suc n) before after is none = absurd (none (rises n before afte
 -- the count of the sink rose by what the end says
 abbrev EndsAt : End → ℕ → ℕ → Type 0
 EndsAt Wanting before after = Unit {0}
+EndsAt (Broken node axis) before after = Unit {0}
 EndsAt (Failures n) before after = after ≡ raised before n
 
-shown-ends : (refresh : Act) (closed : Sent) (bytes : List ℕ) (before after : ℕ) → IsRefresh bytes refresh
+shown-ends : (shown : Presented) (refresh : Act) (closed : Sent) (before after : ℕ) → IsRefresh shown refresh
     → after ≡ raised before (faults_of (refresh ∷ Closes closed ∷ [])) → EndsAt (end_of (Failures 0) (refresh ∷ Closes closed ∷ [])) before after
-shown-ends Unmade closed bytes before after is faults = tt
-shown-ends (Updates update sent) closed bytes before after is faults = faults ∙ ap (raised before) (omega arith)
-shown-ends (Closes sent) closed bytes before after is faults = absurd is
-shown-ends (Writes lines sent) closed bytes before after is faults = absurd is
+shown-ends shown Unmade closed before after is faults = tt
+shown-ends shown (Undefined node axis) closed before after is faults = tt
+shown-ends shown (Updates update sent) closed before after is faults = faults ∙ ap (raised before) (omega arith)
+shown-ends shown (Closes sent) closed before after is faults = absurd is
+shown-ends shown (Writes lines sent) closed before after is faults = absurd is
 
 printed-ends : (lines : List ℕ) (acts : List Act) (before after : ℕ) → IsPrinted lines acts → after ≡ raised before (faults_of acts)
     → EndsAt (end_of (Failures 0) acts) before after
@@ -117,16 +124,16 @@ printed-ends lines acts before after printed faults =
 -- what was opened, and is no stop
 abbrev IsOpen : Opening → Type 0
 IsOpen (Stops cause) = ⊥
-IsOpen (Opens scene) = Unit {0}
+IsOpen (Opens shown) = Unit {0}
 IsOpen (Prints lines) = Unit {0}
 IsOpen (Finds rows selector) = Unit {0}
 
 course-ends : (opening : Opening) (acts : List Act) (before after : ℕ) → IsOpen opening → IsCourse opening acts → after ≡ raised before (faults_of acts)
     → EndsAt (end_of (Failures 0) acts) before after
 course-ends (Stops cause) acts before after opened course faults = absurd opened
-course-ends (Opens scene) acts before after opened course faults =
+course-ends (Opens shown) acts before after opened course faults =
     subst (λ (all : List Act). EndsAt (end_of (Failures 0) all) before after) (sym course.is)
-    (shown-ends course.refresh course.closed _ before after course.refreshes (faults ∙ ap (λ (all : List Act). raised before (faults_of all)) course.is))
+    (shown-ends shown course.refresh course.closed before after course.refreshes (faults ∙ ap (λ (all : List Act). raised before (faults_of all)) course.is))
 course-ends (Prints lines) acts before after opened course faults = printed-ends lines acts before after course faults
 course-ends (Finds rows selector) acts before after opened course faults = printed-ends course.lines acts before after course.printed faults
 
@@ -134,6 +141,7 @@ course-ends (Finds rows selector) acts before after opened course faults = print
 
 end-no_read : (end : End) (before after : ℕ) → CausedBy (read_faults (end_cause end)) before after
 end-no_read Wanting before after = tt
+end-no_read (Broken node axis) before after = tt
 end-no_read (Failures n) before after = sink_cause-no_read n before after
 
 opening-read : (opening : Opening) (acts : List Act) (before after : ℕ) → OfReading opening → after ≡ raised before (read_failures opening)
@@ -141,9 +149,10 @@ opening-read : (opening : Opening) (acts : List Act) (before after : ℕ) → Of
 opening-read (Stops Usage) acts before after of is = tt
 opening-read (Stops (Refused file line column kind)) acts before after of is = tt
 opening-read (Stops (ReadFault rose)) acts before after of is = (omega (arith, of), is, omega (arith, of, is))
+opening-read (Stops (Fraction node axis)) acts before after of is = absurd of
 opening-read (Stops (SinkFault rose)) acts before after of is = absurd of
 opening-read (Stops NoMemory) acts before after of is = tt
-opening-read (Opens scene) acts before after of is = end-no_read (end_of (Failures 0) acts) before after
+opening-read (Opens shown) acts before after of is = end-no_read (end_of (Failures 0) acts) before after
 opening-read (Prints lines) acts before after of is = end-no_read (end_of (Failures 0) acts) before after
 opening-read (Finds rows selector) acts before after of is = end-no_read (end_of (Failures 0) acts) before after
 
@@ -168,6 +177,7 @@ Runs-read_fault words files_before files_after before after journal cause r =
 
 end-sink : (end : End) (before after : ℕ) → EndsAt end before after → CausedBy (sink_faults (end_cause end)) before after
 end-sink Wanting before after at = tt
+end-sink (Broken node axis) before after at = tt
 end-sink (Failures n) before after at = sink_cause-caused n before after at
 
 opening-sink : (opening : Opening) (acts : List Act) (before after : ℕ) → OfReading opening → IsCourse opening acts → after ≡ raised before (faults_of acts)
@@ -175,9 +185,10 @@ opening-sink : (opening : Opening) (acts : List Act) (before after : ℕ) → Of
 opening-sink (Stops Usage) acts before after of course is = tt
 opening-sink (Stops (Refused file line column kind)) acts before after of course is = tt
 opening-sink (Stops (ReadFault rose)) acts before after of course is = tt
+opening-sink (Stops (Fraction node axis)) acts before after of course is = absurd of
 opening-sink (Stops (SinkFault rose)) acts before after of course is = absurd of
 opening-sink (Stops NoMemory) acts before after of course is = tt
-opening-sink (Opens scene) acts before after of course is = end-sink (end_of (Failures 0) acts) before after (course-ends (Opens scene) acts before after tt course is)
+opening-sink (Opens shown) acts before after of course is = end-sink (end_of (Failures 0) acts) before after (course-ends (Opens shown) acts before after tt course is)
 opening-sink (Prints lines) acts before after of course is = end-sink (end_of (Failures 0) acts) before after (course-ends (Prints lines) acts before after tt course is)
 opening-sink (Finds rows selector) acts before after of course is = end-sink (end_of (Failures 0) acts) before after (course-ends (Finds rows selector) acts before after tt course is)
 
@@ -194,9 +205,10 @@ abbrev Fine : Opening → Type 0
 Fine (Stops Usage) = ⊥
 Fine (Stops (Refused file line column kind)) = ⊥
 Fine (Stops (ReadFault rose)) = rose ≡ 1
+Fine (Stops (Fraction node axis)) = ⊥
 Fine (Stops (SinkFault rose)) = ⊥
 Fine (Stops NoMemory) = Unit {0}
-Fine (Opens scene) = Unit {0}
+Fine (Opens shown) = IsOk (composed shown)
 Fine (Prints lines) = Unit {0}
 Fine (Finds rows selector) = Unit {0}
 
@@ -220,13 +232,42 @@ accepts-fine told (Read name limit next) (Err Failed ∷ answers) accepts of_fil
 accepts-fine told (Read name limit next) (Err PastLimit ∷ answers) accepts of_files =
     absurd (held-short (told name) limit (λ all. Accepts told (next all)) accepts of_files.0)
 accepts-fine told (Read name limit next) (Err NoRoom ∷ answers) accepts of_files = tt
-accepts-fine told (Open scene) answers accepts of_files = tt
+accepts-fine told (Open shown) answers accepts of_files = accepts
 accepts-fine told (Print lines) answers accepts of_files = tt
 accepts-fine told (Find rows selector) answers accepts of_files = tt
 
-end-free : (end : End) (before after : ℕ) → EndsAt end before after → (Rose before after → ⊥) → IsNoneOrMemory (end_cause end)
-end-free Wanting before after at none = tt
-end-free (Failures n) before after at none = sink_cause-free n before after at none
+-- the picture was defined
+abbrev IsWhole : End → Type 0
+IsWhole Wanting = Unit {0}
+IsWhole (Broken node axis) = ⊥
+IsWhole (Failures n) = Unit {0}
+
+undefined-none : {K : Type 0} (picture : Result GridValue K) (fault : K) → IsOk picture → picture ≡ Err fault → ⊥
+undefined-none (Ok value) fault defined is = absurd (let e : ◌≡◌ {A = Result GridValue _} (Ok value) (Err fault) = is in cc)
+undefined-none (Err other) fault defined is = false≢true defined
+
+shown-whole : (shown : Presented) (refresh : Act) (closed : Sent) → IsOk (composed shown) → IsRefresh shown refresh
+    → IsWhole (end_of (Failures 0) (refresh ∷ Closes closed ∷ []))
+shown-whole shown Unmade closed defined is = tt
+shown-whole shown (Undefined node axis) closed defined is = undefined-none (composed shown) (node, axis) defined is
+shown-whole shown (Updates update sent) closed defined is = tt
+shown-whole shown (Closes sent) closed defined is = absurd is
+shown-whole shown (Writes lines sent) closed defined is = absurd is
+
+printed-whole : (lines : List ℕ) (acts : List Act) → IsPrinted lines acts → IsWhole (end_of (Failures 0) acts)
+printed-whole lines acts printed = subst (λ (all : List Act). IsWhole (end_of (Failures 0) all)) (sym printed.is) tt
+
+course-whole : (opening : Opening) (acts : List Act) → IsOpen opening → Fine opening → IsCourse opening acts → IsWhole (end_of (Failures 0) acts)
+course-whole (Stops cause) acts opened fine course = absurd opened
+course-whole (Opens shown) acts opened fine course =
+    subst (λ (all : List Act). IsWhole (end_of (Failures 0) all)) (sym course.is) (shown-whole shown course.refresh course.closed fine course.refreshes)
+course-whole (Prints lines) acts opened fine course = printed-whole lines acts course
+course-whole (Finds rows selector) acts opened fine course = printed-whole course.lines acts course.printed
+
+end-free : (end : End) (before after : ℕ) → IsWhole end → EndsAt end before after → (Rose before after → ⊥) → IsNoneOrMemory (end_cause end)
+end-free Wanting before after whole at none = tt
+end-free (Broken node axis) before after whole at none = absurd whole
+end-free (Failures n) before after whole at none = sink_cause-free n before after at none
 
 opening-free : (opening : Opening) (acts : List Act) (files_before files_after before after : ℕ) → Fine opening → IsCourse opening acts
     → files_after ≡ raised files_before (read_failures opening) → after ≡ raised before (faults_of acts)
@@ -234,14 +275,15 @@ opening-free : (opening : Opening) (acts : List Act) (files_before files_after b
 opening-free (Stops Usage) acts files_before files_after before after fine course loads faults no_read no_sink = absurd fine
 opening-free (Stops (Refused file line column kind)) acts files_before files_after before after fine course loads faults no_read no_sink = absurd fine
 opening-free (Stops (ReadFault rose)) acts files_before files_after before after fine course loads faults no_read no_sink = absurd (no_read (omega (arith, fine, loads)))
+opening-free (Stops (Fraction node axis)) acts files_before files_after before after fine course loads faults no_read no_sink = absurd fine
 opening-free (Stops (SinkFault rose)) acts files_before files_after before after fine course loads faults no_read no_sink = absurd fine
 opening-free (Stops NoMemory) acts files_before files_after before after fine course loads faults no_read no_sink = tt
-opening-free (Opens scene) acts files_before files_after before after fine course loads faults no_read no_sink =
-    end-free (end_of (Failures 0) acts) before after (course-ends (Opens scene) acts before after tt course faults) no_sink
+opening-free (Opens shown) acts files_before files_after before after fine course loads faults no_read no_sink =
+    end-free (end_of (Failures 0) acts) before after (course-whole (Opens shown) acts tt fine course) (course-ends (Opens shown) acts before after tt course faults) no_sink
 opening-free (Prints lines) acts files_before files_after before after fine course loads faults no_read no_sink =
-    end-free (end_of (Failures 0) acts) before after (course-ends (Prints lines) acts before after tt course faults) no_sink
+    end-free (end_of (Failures 0) acts) before after (course-whole (Prints lines) acts tt fine course) (course-ends (Prints lines) acts before after tt course faults) no_sink
 opening-free (Finds rows selector) acts files_before files_after before after fine course loads faults no_read no_sink =
-    end-free (end_of (Failures 0) acts) before after (course-ends (Finds rows selector) acts before after tt course faults) no_sink
+    end-free (end_of (Failures 0) acts) before after (course-whole (Finds rows selector) acts tt fine course) (course-ends (Finds rows selector) acts before after tt course faults) no_sink
 
 -- where it comes to want of memory nothing is owed, and else it is what was expected
 comes-free : (expected actual : Opening) (acts : List Act) (files_before files_after before after : ℕ) → Fine expected → ComesTo expected actual → IsCourse actual acts

@@ -5,8 +5,8 @@ use Rattle.std.specs.Option.{option_map_or}
 use Rattle.std.specs.Prelude.{unwrap_or, slice_get, length, encode_utf8}
 use Rattle.clap.specs.Lexer.{long_of, short_of}
 use Rattle.std.specs.Str.{bytes_eq, chars}
-use Rattle.clap.specs.Walk.{Held, Row, Rule, Text, Walk, Names, idle, all_of, first_of, has_row, settled, walk, walked, walk_from, nothing_held, rows_after, finished, with_default}
-use Rattle.clap.specs.Simple.{App, Shape, built, entered, names_of, new_shape, subcommand_of, is_simple}
+use Rattle.clap.specs.Walk.{Held, Row, Text, Walk, Names, idle, all_of, first_of, has_row, settled, walk, walked, walk_from, nothing_held, rows_after, finished, with_default}
+use Rattle.clap.specs.Simple.{App, Shape, built, entered, names_of, new_shape, subcommand_of}
 use Rattle.clap.specs.Kinds.{Kinds, IsAmong, or_else}
 use Rattle.clap.specs.Takes.{is_given}
 use Rattle.clap.specs.Faults.{settle_fault, walk_fault, turn_fault, flags_fault, defaults_fault, check_fault, level_fault, entered_fault, flag_word_fault, bundle_fault, word_fault, fault_of, is_simple_and_free}
@@ -21,7 +21,7 @@ use Rattle.clap.specs.Walk.{row_of, rows_of}
 use Rattle.clap.specs.declared.parser.matches.Found.{Found as MatchesFound}
 use Rattle.clap.specs.declared.error.kind.ErrorKind.{ErrorKind}
 use Rattle.clap.specs.declared.error.kind.ErrorKind.TheVariants as kind
-use Rattle.tx_app.specs.CommandLine.{asked_by, asked_in, asked_with, command_app, words_id}
+use Rattle.tx_app.specs.CommandLine.{asked_by, asked_in, command_app, words_id}
 use Rattle.tx_app.specs.Words.{Task, Given, asked, given, is_among, nothing, shows, checks, queries, size_options, value_of_option}
 use Rattle.tx_app.proofs.RowLemmas.{bytes_eq-same, same_text}
 use Rattle.tx_app.proofs.GivenLemmas.{rules_ready, Found, Agrees}

@@ -1,21 +1,24 @@
 -- What is done for an opening, from its parts.
-use Rattle.std.proofs.Common.{◌≡◌, ◌≤◌, ◌+◌, ◌-◌, ◌^◌, min, ℕ, Bool, true, false, cond, List, [], ◌∷◌, ◌++◌, take, Option, None, Some, refl, ap, sym, ◌∙◌, append_assoc, append-nil, arith, subst, zero-add}
+use Rattle.std.proofs.Common.{◌≡◌, ◌≤◌, ◌+◌, ◌-◌, ◌^◌, min, ℕ, Bool, true, false, cond, List, [], ◌∷◌, ◌++◌, take, Option, None, Some, refl, ap, sym, ◌∙◌, append_assoc, append-nil, arith, subst, zero-add, Ok, Err}
 use Rattle.std.specs.Io.KnownBytes.{append_known}
-use Rattle.tx_cell.specs.Grid.{GridValue}
+use Rattle.tx_cell.specs.Grid.{GridValue, IsGrid}
+use Rattle.tx_compose.specs.Presented.{Presented, IsScreen, composed}
+use Rattle.tx_geom.specs.declared.choices.Axis.{Axis}
 use Rattle.tx_io.specs.declared.send.Sent.{Sent}
 use Rattle.tx_io.specs.Faults.{raised}
 use Rattle.tx_io.specs.Loading.{FilesSeen}
 use Rattle.tx_io.specs.Sending.{Sends, failed_puts}
 use Rattle.tx_io.specs.Sink.{SinkSeen}
 use Rattle.tx_term.specs.Update.{update, closing}
+use Rattle.tx_tree.specs.declared.row.NodeId.{NodeId}
 use Rattle.tx_tree.specs.declared.row.Row.{Row}
 use Rattle.tx_select.specs.SelectorValue.{SelectorValue}
 use Rattle.tx_app.specs.Listing.{ListsMatches}
-use Rattle.tx_app.specs.Scene.{Scene, picture, at_first}
+use Rattle.tx_app.specs.FirstShown.{at_first}
 use Rattle.tx_app.specs.Openings.{Opening, Stops, Opens, Prints, Finds, MayWant, ComesTo}
 use Rattle.tx_app.specs.Plan.{opening_of}
 use Rattle.tx_app.specs.Plans.{Planned}
-use Rattle.tx_app.specs.Course.{Act, Unmade, Updates, Closes, Writes, IsRefresh, act_bytes, act_faults, IsCourse}
+use Rattle.tx_app.specs.Course.{Act, Unmade, Undefined, Updates, Closes, Writes, IsRefresh, act_bytes, act_faults, IsCourse}
 use Rattle.tx_app.specs.Journal.{act_entries}
 use Rattle.tx_app.specs.Causes.{Failures, end_cause, end_of, sink_cause, cause_of}
 use Rattle.tx_app.specs.Refreshing.{Refreshes, entry_cause}
@@ -42,9 +45,9 @@ raised-none n = omega arith
 raised-twice : (n a b : ℕ) → raised (raised n a) b ≡ raised n (a + b)
 raised-twice n a b = omega arith
 
--- the picture couldn't be made
-pub Refreshes-unmade : (before : SinkSeen) (scene : Scene) (entry : Entry) → entry ∷ [] ≡ act_entries Unmade → Refreshes before before scene entry
-Refreshes-unmade before scene entry is = record {
+-- memory was wanting
+pub Refreshes-unmade : (before : SinkSeen) (shown : Presented) (entry : Entry) → entry ∷ [] ≡ act_entries Unmade → Refreshes before before shown entry
+Refreshes-unmade before shown entry is = record {
   act = Unmade;
   is = tt;
   told = append_known-nothing before.told;
@@ -52,15 +55,30 @@ Refreshes-unmade before scene entry is = record {
   entry_is = is;
 }
 
+-- the picture is undefined
+pub Refreshes-undefined : (before : SinkSeen) (shown : Presented) (node : NodeId) (axis : Axis) (entry : Entry) → composed shown ≡ Err (node, axis)
+    → entry ∷ [] ≡ act_entries (Undefined node axis) → Refreshes before before shown entry
+Refreshes-undefined before shown node axis entry is entry_is = record {
+  act = Undefined node axis;
+  is = is;
+  told = append_known-nothing before.told;
+  faults = raised-none before.faults;
+  entry_is = entry_is;
+}
+
 -- its update was sent
-pub Refreshes-made : (before after : SinkSeen) (scene : Scene) (shown next : GridValue) (sent : Sent) (entry : Entry)
-    → shown ≡ at_first scene.size → next ≡ picture scene → Sends before after (update shown next true) sent → entry ∷ [] ≡ act_entries (Updates [] sent)
-    → Refreshes before after scene entry
-Refreshes-made before after scene shown next sent entry fresh made sends is =
-    let first : List ℕ = update (at_first scene.size) (picture scene) true in
-    let bytes : update shown next true ≡ first = ap (λ s. update s next true) fresh ∙ ap (λ n. update (at_first scene.size) n true) made in
-    let whole : Sends before after first sent = subst (λ b. Sends before after b sent) bytes sends in
-    record { act = Updates first sent; is = (refl, record { all = whole.all; part = whole.part }); told = whole.content; faults = whole.faults; entry_is = is }
+pub Refreshes-made : (before after : SinkSeen) (shown : Presented) (past next : GridValue) (sent : Sent) (entry : Entry)
+    → IsScreen shown.size → IsGrid past → IsGrid next
+    → past ≡ at_first shown.size → composed shown ≡ Ok next → Sends before after (update past next true) sent → entry ∷ [] ≡ act_entries (Updates [] sent)
+    → Refreshes before after shown entry
+Refreshes-made before after shown past next sent entry limits past_formed next_formed fresh made sends is =
+    record {
+      act = Updates (update past next true) sent;
+      is = (record { picture = next; is = made; bytes_are = ap (λ s. update s next true) fresh; limits = limits; blank = subst IsGrid fresh past_formed; formed = next_formed }, record { all = sends.all; part = sends.part });
+      told = sends.content;
+      faults = sends.faults;
+      entry_is = is;
+    }
 
 -- ---- the show
 
@@ -76,23 +94,23 @@ IsDone-stopped before journal cause = record {
 }
 
 -- memory was wanting before the refresh
-pub Does-wanting : (before : SinkSeen) (scene : Scene) (journal : List Entry) → Does (Opens scene) before before journal journal (Some NoMemory)
-Does-wanting before scene journal = record {
+pub Does-wanting : (before : SinkSeen) (shown : Presented) (journal : List Entry) → Does (Opens shown) before before journal journal (Some NoMemory)
+Does-wanting before shown journal = record {
   actual = Stops NoMemory;
   comes = record { wanting = true; is = refl; may = tt };
   done = IsDone-stopped before journal NoMemory;
 }
 
 -- a refresh, and then the closing bytes
-pub Does-refresh : (before mid after : SinkSeen) (scene : Scene) (journal : List Entry) (entry : Entry) (closed : Sent) (cause : Option Cause)
-    → (r : Refreshes before mid scene entry) → Sends mid after closing closed
+pub Does-refresh : (before mid after : SinkSeen) (shown : Presented) (journal : List Entry) (entry : Entry) (closed : Sent) (cause : Option Cause)
+    → (r : Refreshes before mid shown entry) → Sends mid after closing closed
     → cause ≡ end_cause (end_of (Failures 0) (r.act ∷ Closes closed ∷ []))
-    → Does (Opens scene) before after journal (journal ++ entry ∷ []) cause
-Does-refresh before mid after scene journal entry closed cause r sends is =
+    → Does (Opens shown) before after journal (journal ++ entry ∷ []) cause
+Does-refresh before mid after shown journal entry closed cause r sends is =
     let front : List ℕ = act_bytes r.act in
     let back : List ℕ = take closed.taken closing in
     record {
-      actual = Opens scene;
+      actual = Opens shown;
       comes = record { wanting = false; is = refl; may = tt };
       done = record {
         acts = r.act ∷ Closes closed ∷ [];
@@ -215,9 +233,25 @@ head-same {x} same = ap (λ (all : List Entry). first_of_list x all) same
     first_of_list other (entry ∷ entries) = entry
 
 -- the entry says the cause
-pub entry_cause-of : (act : Act) (bytes : List ℕ) (entry : Entry) (closed : Sent) → IsRefresh bytes act → entry ∷ [] ≡ act_entries act
+pub entry_cause-of : (act : Act) (shown : Presented) (entry : Entry) (closed : Sent) → IsRefresh shown act → entry ∷ [] ≡ act_entries act
     → entry_cause entry closed ≡ end_cause (end_of (Failures 0) (act ∷ Closes closed ∷ []))
-entry_cause-of Unmade bytes entry closed is same = ap (λ e. entry_cause e closed) (head-same same)
-entry_cause-of (Updates update sent) bytes entry closed is same = ap (λ e. entry_cause e closed) (head-same same) ∙ made_cause sent.failed sent.taken closed
-entry_cause-of (Closes sent) bytes entry closed is same = absurd is
-entry_cause-of (Writes lines sent) bytes entry closed is same = absurd is
+entry_cause-of Unmade shown entry closed is same = ap (λ e. entry_cause e closed) (head-same same)
+entry_cause-of (Undefined node axis) shown entry closed is same = ap (λ e. entry_cause e closed) (head-same same)
+entry_cause-of (Updates update sent) shown entry closed is same = ap (λ e. entry_cause e closed) (head-same same) ∙ made_cause sent.failed sent.taken closed
+entry_cause-of (Closes sent) shown entry closed is same = absurd is
+entry_cause-of (Writes lines sent) shown entry closed is same = absurd is
+
+-- ---- the run of a picture
+
+-- memory was wanting before the refresh, and nothing stands in the journal
+pub Does-unbegun : (before : SinkSeen) (shown : Presented) (items : List Entry) → items ≡ [] → Does (Opens shown) before before [] items (Some NoMemory)
+Does-unbegun before shown items none = subst (λ (all : List Entry). Does (Opens shown) before before [] all (Some NoMemory)) (sym none) (Does-wanting before shown [])
+
+-- its refresh, and then the closing bytes
+pub Does-shown : (before mid after : SinkSeen) (shown other : Presented) (items : List Entry) (entry : Entry) (closed : Sent) (cause : Option Cause)
+    → shown ≡ other → items ≡ entry ∷ [] → Refreshes before mid shown entry → Sends mid after closing closed → cause ≡ entry_cause entry closed
+    → Does (Opens other) before after [] items cause
+Does-shown before mid after shown other items entry closed cause same journal r sends is =
+    subst (λ (o : Presented). Does (Opens o) before after [] items cause) same
+    (subst (λ (all : List Entry). Does (Opens shown) before after [] all cause) (sym journal)
+    (Does-refresh before mid after shown [] entry closed cause r sends (is ∙ entry_cause-of r.act shown entry closed r.is r.entry_is)))

@@ -1,12 +1,11 @@
 -- One use of an option or of another word in a parse of a mode, by what was given before.
-use Rattle.std.proofs.Common.{◌≡◌, ℕ, Bool, true, false, not, List, [], ◌∷◌, ◌++◌, map, Option, None, Some, refl, ap, sym, ◌∙◌, subst, codes, option_map, option_and_then, if◌then◌else◌, find, is_some, ◌&&◌, ◌||◌, true≢false}
-use Rattle.std.specs.List.{list_any}
-use Rattle.std.specs.Prelude.{unwrap_or, slice_get}
+use Rattle.std.proofs.Common.{◌≡◌, ℕ, Bool, true, false, List, [], ◌∷◌, ◌++◌, map, Option, None, Some, refl, ap, sym, ◌∙◌, subst, option_map, option_and_then, if◌then◌else◌, find, is_some, ◌||◌, true≢false}
+use Rattle.std.specs.Prelude.{unwrap_or}
 use Rattle.std.specs.Str.{bytes_eq}
-use Rattle.clap.specs.Walk.{Held, Row, Rule, Text, all_of, has_row, arg_by_id, arg_by_index, arg_by_long, arg_by_short, settled, used, with_values, without, reading_by}
+use Rattle.clap.specs.Walk.{Row, Rule, Text, all_of, has_row, arg_by_id, arg_by_index, arg_by_long, arg_by_short, used, with_values, reading_by}
 use Rattle.clap.specs.Simple.{new_rule}
 use Rattle.clap.specs.Kinds.{Kinds, or_else}
-use Rattle.clap.specs.Faults.{settle_fault, use_fault}
+use Rattle.clap.specs.Faults.{use_fault}
 use Rattle.clap.specs.declared.builder.action.ArgAction.TheVariants.{Append, Set}
 use Rattle.clap.specs.declared.builder.value_parser.ValueParser.TheVariants as parser
 use Rattle.clap.specs.declared.parser.matches.ValueSource.TheVariants.{CommandLine}

@@ -2,10 +2,12 @@ pub mod AcceptLemmas
 pub mod CauseLemmas
 pub mod CommandLemmas
 pub mod CourseLemmas
-pub mod FormLemmas
 pub mod GivenLemmas
+pub mod HeadlineLemmas
 pub mod PlanLemmas
 pub mod ReportLemmas
 pub mod RowLemmas
-pub mod SceneLemmas
+pub mod ShownLemmas
+pub mod TickLemmas
+pub mod TreeLemmas
 pub mod WalkLemmas

@@ -5,13 +5,14 @@ use Rattle.std.specs.declared.alloc.Global.{Global}
 use Rattle.tx_io.specs.Faults.{raised}
 use Rattle.tx_io.specs.Loading.{FilesSeen, Load, load_of, append_loads, failed_loads, after_loads}
 use Rattle.tx_io.specs.Store.{Answer, LoadGives}
+use Rattle.tx_geom.specs.declared.places.Size.{Size}
 use Rattle.tx_tree.specs.declared.row.Row.{Row}
 use Rattle.tx_select.specs.SelectorValue.{SelectorValue}
-use Rattle.tx_app.specs.TreeForm.{Fault}
+use Rattle.tx_app.specs.Trees.{Fault}
 use Rattle.tx_app.specs.Openings.{Opening, Stops, ComesTo}
 use Rattle.tx_app.specs.Loads.{file_limit, GivesLoaded, Loads}
 use Rattle.tx_app.specs.Plan.{Plan, Misuse, Unjudged, Refuse, Read, Open, Print, Find, opening_of, loads_of, AreOfFiles, Begun, Follows}
-use Rattle.tx_app.specs.Plans.{plan_of, rows_plan, Planned}
+use Rattle.tx_app.specs.Plans.{plan_of, rows_plan, tree_plan, Planned}
 use Rattle.tx_app.specs.Words.{Task, asked}
 use Rattle.tx_app.specs.declared.causes.Cause.{Cause}
 use Rattle.tx_app.specs.declared.causes.Cause.TheVariants.{Usage, NoMemory}
@@ -106,7 +107,7 @@ no_loads Misuse = refl
 no_loads Unjudged = refl
 no_loads (Refuse file line column kind) = refl
 no_loads (Read name limit next) = refl
-no_loads (Open scene) = refl
+no_loads (Open shown) = refl
 no_loads (Print lines) = refl
 no_loads (Find rows selector) = refl
 
@@ -146,3 +147,8 @@ Begun-misuse before = record { follows = Follows-here before (plan_of None) (Sto
 pub ComesTo-rows : (name : List ℕ) (selector : SelectorValue) (found : Result (List Row) Fault) → ComesTo (opening_of (rows_plan name selector found) []) (Stops NoMemory)
 ComesTo-rows name selector (Ok rows) = record { wanting = true; is = refl; may = tt }
 ComesTo-rows name selector (Err fault) = record { wanting = true; is = refl; may = tt }
+
+-- memory was wanting for a tree or for a sheet that is shown
+pub Follows-untree : (before : FilesSeen) (size : Size) (tree sheet : List ℕ) (found : Result (List Row) Fault) → Follows before before (tree_plan size tree sheet found) (Stops NoMemory)
+Follows-untree before size tree sheet (Ok rows) = Follows-here before (tree_plan size tree sheet (Ok rows)) (Stops NoMemory) (record { wanting = false; is = refl; may = tt })
+Follows-untree before size tree sheet (Err fault) = Follows-here before (tree_plan size tree sheet (Err fault)) (Stops NoMemory) (record { wanting = true; is = refl; may = tt })

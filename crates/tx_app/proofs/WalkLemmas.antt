@@ -1,20 +1,19 @@
 -- The walk over the words of a mode: it ends without a fault exactly where the words are accepted, and then the rows hold
 -- what they give.
-use Rattle.std.proofs.Common.{◌≡◌, ℕ, zero, suc, Bool, true, false, not, List, [], ◌∷◌, ◌++◌, map, fold, length, take, drop, Option, None, Some, refl, ap, ap₂, sym, ◌∙◌, subst, codes, option_map, option_and_then, if◌then◌else◌, find, is_some, ◌==◌, ◌&&◌, ◌||◌, true≢false, append_assoc, append-nil, arith}
+use Rattle.std.proofs.Common.{◌≡◌, ℕ, Bool, true, false, List, [], ◌∷◌, fold, length, Option, None, Some, refl, ap, ap₂, sym, ◌∙◌, subst, option_map, option_and_then, if◌then◌else◌, ◌==◌, ◌&&◌, append_assoc, append-nil, arith}
 use Rattle.std.proofs.lemmas.Bool.Decides.{nat_tests}
-use Rattle.std.specs.List.{list_any, before_first, after_first}
-use Rattle.std.specs.Prelude.{unwrap_or, slice_get}
+use Rattle.std.specs.Prelude.{slice_get}
 use Rattle.std.specs.Option.{option_map_or}
 use Rattle.std.specs.Str.{bytes_eq, chars}
 use Rattle.clap.specs.Lexer.{long_of, short_of}
-use Rattle.clap.specs.Walk.{Held, Row, Rule, Text, Walk, Waiting, idle, option, positional, arg_by_id, settled, subcommand_met, used, walked, is_pending, nothing_held, walk_from}
+use Rattle.clap.specs.Walk.{Held, Row, Rule, Text, Walk, Waiting, idle, option, positional, settled, subcommand_met, used, walked, is_pending}
 use Rattle.clap.specs.Simple.{Shape, new_shape}
 use Rattle.clap.specs.Kinds.{Kinds, or_else}
 use Rattle.clap.specs.Faults.{settle_fault, use_fault, walk_fault, turn_fault, flags_fault, flag_word_fault, bundle_fault, word_fault, other_fault}
 use Rattle.clap.specs.declared.error.kind.ErrorKind.{ErrorKind}
 use Rattle.clap.specs.declared.error.kind.ErrorKind.TheVariants as kind
 use Rattle.tx_app.specs.CommandLine.{words_id}
-use Rattle.tx_app.specs.Words.{Given, is_among, value_of_option, with_option, with_others, is_hyphenated, option_of, halves_of, given_after, option_met}
+use Rattle.tx_app.specs.Words.{Given, is_among, with_option, with_others, is_hyphenated, halves_of, given_after, option_met}
 use Rattle.tx_app.proofs.RowLemmas.{bytes_eq-same}
 use Rattle.tx_app.proofs.GivenLemmas.{option_ready, words_ready, rules_ready, by_long, by_id, by_words, by_short, by_index, Found, Agrees, Agrees-then, use_option, use_word}
 

@@ -1,14 +1,20 @@
 -- What stands behind the statuses: risen counts, and when there is no cause but want of memory.
-use Rattle.std.specs.Prelude.{◌≡◌, ◌≤◌, ◌<◌, ◌^◌, ℕ, List, [], ◌∷◌, length, Option, Some, None, codes}
+use Rattle.std.specs.Prelude.{◌≡◌, ◌≤◌, ◌<◌, ◌^◌, ℕ, List, [], ◌∷◌, length, All, Option, Some, None, codes, IsOk}
 use Rattle.tx_io.specs.Faults.{raised, Rose}
+use Rattle.tx_compose.specs.Presented.{IsScreen, composed}
+use Rattle.tx_map.specs.OrdinarySheets.{AreOrdinaryTexts, IsOrdinarySheet, IsOrdinaryTree}
+use Rattle.tx_opening.specs.OpeningFaults.{IsInline}
+use Rattle.tx_parse.specs.Default.{sheet_value}
 use Rattle.tx_parse.specs.Grammar.{Found}
 use Rattle.tx_parse.specs.Texts.{IsSheetText}
+use Rattle.tx_picture.specs.Given.{AreBuiltIn}
 use Rattle.tx_select.specs.SelectorValue.{SelectorValue}
 use Rattle.tx_select.specs.Texts.{IsSelectorText}
 use Rattle.tx_tree.specs.TreeValue.{TreeValue}
 use Rattle.tx_tree.specs.WellFormed.{IsTree}
 use Rattle.tx_tree_file.specs.TreeFile.{IsReading}
-use Rattle.tx_app.specs.Words.{Checks, asked, given}
+use Rattle.tx_app.specs.FirstShown.{first_shown}
+use Rattle.tx_app.specs.Words.{Checks, Show, Shows, asked, given}
 use Rattle.tx_app.specs.Loads.{file_limit}
 use Rattle.tx_app.specs.Plan.{Plan, Misuse, Unjudged, Refuse, Read, Open, Print, Find}
 use Rattle.tx_app.specs.Plans.{plan_of_words}
@@ -41,13 +47,13 @@ abbrev pub IsHeld : Option (List ℕ) → ℕ → (List ℕ → Type 0) → Type
 IsHeld None limit rest = ⊥
 IsHeld (Some bytes) limit rest = (length bytes ≤ limit) × rest bytes
 
--- the files hold all that the plan asks for, and nothing there is at fault
+-- the files hold all that the plan asks for, nothing there is at fault, and the picture is defined
 abbrev pub Accepts : (List ℕ → Option (List ℕ)) → Plan → Type 0
 Accepts told Misuse = ⊥
 Accepts told Unjudged = ⊥
 Accepts told (Refuse file line column kind) = ⊥
 Accepts told (Read name limit next) = IsHeld (told name) limit (λ bytes. Accepts told (next bytes))
-Accepts told (Open scene) = Unit {0}
+Accepts told (Open shown) = IsOk (composed shown)
 Accepts told (Print lines) = Unit {0}
 Accepts told (Find rows selector) = Unit {0}
 
@@ -70,7 +76,7 @@ abbrev pub SheetsAreAccepted : Type 0
 SheetsAreAccepted = (words : List (List ℕ)) (told : List ℕ → Option (List ℕ)) → HoldsSheet words told → Accepts told (plan_of_words words)
 
 -- The words ask for the rows of a tree that a selector matches, the selector is one by its grammar, and the file spells a
--- tree, within the limit.
+-- tree, within the limit, of built-in kinds and with inline texts in the grammar.
 pub record HoldsTree (words : List (List ℕ)) (told : List ℕ → Option (List ℕ)) : Type 0 where
   pub program : List ℕ
   pub rest : List (List ℕ)
@@ -87,6 +93,40 @@ pub record HoldsTree (words : List (List ℕ)) (told : List ℕ → Option (List
   pub bytes_short : length bytes ≤ file_limit
   pub sound : IsTree tree
   pub spells : IsReading bytes tree
+  pub built_in : AreBuiltIn tree.rows
+  pub inline : All IsInline tree.rows
 
 abbrev pub TreesAreAccepted : Type 0
 TreesAreAccepted = (words : List (List ℕ)) (told : List ℕ → Option (List ℕ)) → HoldsTree words told → Accepts told (plan_of_words words)
+
+-- The words ask for a picture, and the files that they name spell a tree, of built-in kinds and with inline texts in the grammar, and a
+-- sheet, each within the limit.
+pub record HoldsBoth (words : List (List ℕ)) (told : List ℕ → Option (List ℕ)) : Type 0 where
+  pub show : Show
+  pub asks : asked words ≡ Some (Shows show)
+  pub tree_bytes : List ℕ
+  pub tree : TreeValue
+  pub tree_told : told show.tree ≡ Some tree_bytes
+  pub tree_short : length tree_bytes ≤ file_limit
+  pub sound : IsTree tree
+  pub spells : IsReading tree_bytes tree
+  pub built_in : AreBuiltIn tree.rows
+  pub inline : All IsInline tree.rows
+  pub sheet_bytes : List ℕ
+  pub found : Found
+  pub sheet_told : told show.sheet ≡ Some sheet_bytes
+  pub sheet_short : length sheet_bytes ≤ file_limit
+  pub grammar : IsSheetText sheet_bytes found
+
+-- such files hold all that the plan asks for, where the picture is defined
+abbrev pub PicturesAreAccepted : Type 0
+PicturesAreAccepted =
+    (words : List (List ℕ)) (told : List ℕ → Option (List ℕ)) (h : HoldsBoth words told)
+    → IsOk (composed (first_shown h.tree.rows (sheet_value h.found) h.show.size)) → Accepts told (plan_of_words words)
+
+-- The picture is defined, on a screen within the limits, where the sizes of the sheet and of the inline texts have at most 9 whole digits
+-- and 3 decimals, and no row has more than 1,000 children.
+abbrev pub OrdinaryPicturesAreAccepted : Type 0
+OrdinaryPicturesAreAccepted =
+    (words : List (List ℕ)) (told : List ℕ → Option (List ℕ)) (h : HoldsBoth words told)
+    → IsScreen h.show.size → IsOrdinarySheet (sheet_value h.found) → AreOrdinaryTexts h.tree.rows → IsOrdinaryTree h.tree.rows → Accepts told (plan_of_words words)

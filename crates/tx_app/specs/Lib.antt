@@ -3,7 +3,8 @@ pub mod CommandLine
 pub mod Course
 pub mod ErrorLine
 pub mod Faults
-pub mod FormFault
+pub mod FirstShown
+pub mod Headline
 pub mod Journal
 pub mod Listing
 pub mod Loads
@@ -13,7 +14,6 @@ pub mod Plans
 pub mod Refreshing
 pub mod Report
 pub mod Run
-pub mod Scene
-pub mod SheetForm
-pub mod TreeForm
+pub mod Ticks
+pub mod Trees
 pub mod Words

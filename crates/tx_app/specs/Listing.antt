@@ -1,25 +1,13 @@
 -- The lines of the rows that a selector matches as a run begins.
-use Rattle.std.specs.Prelude.{◌≡◌, ℕ, Bool, true, not, ◌&&◌, List, [], ◌++◌, flat_map, Option, Some, None, find, codes, decimal}
-use Rattle.std.specs.Option.{option_map, option_map_or}
-use Rattle.tx_tree.specs.Kind.{can_focus, kind_name}
+use Rattle.std.specs.Prelude.{◌≡◌, ℕ, List, [], ◌++◌, flat_map, Option, Some, None, codes, decimal}
+use Rattle.std.specs.Option.{option_map_or}
+use Rattle.tx_opening.specs.OpeningState.{opening_state}
+use Rattle.tx_tree.specs.Kind.{kind_name}
 use Rattle.tx_tree.specs.Rows.{row_at}
 use Rattle.tx_tree.specs.declared.row.NodeId.{NodeId}
 use Rattle.tx_tree.specs.declared.row.Row.{Row}
-use Rattle.tx_select.specs.Holds.{is_disabled}
 use Rattle.tx_select.specs.Match.{AreMatches}
 use Rattle.tx_select.specs.SelectorValue.{SelectorValue}
-use Rattle.tx_select.specs.declared.value.Pseudo.{Pseudo}
-
--- a row that can have the focus, and isn't disabled, nor is an ancestor
-abbrev pub may_have_focus : List Row → Row → Bool
-may_have_focus rows row = can_focus row.kind && not (is_disabled rows row)
-
--- the first of these rows has the focus, nothing is pointed at, and the theme is dark
-abbrev pub first_focus : List Row → Option NodeId
-first_focus rows = option_map (λ row. row.node) (find (may_have_focus rows) rows)
-
-abbrev pub opening_state : List Row → Pseudo
-opening_state rows = record { focused = first_focus rows; pointed = None; dark = true }
 
 -- a row's number, its kind, and its id, where it has one
 abbrev pub id_bytes : Option (List ℕ) → List ℕ

@@ -1,18 +1,20 @@
 -- What the reading of the files comes to.
-use Rattle.std.specs.Prelude.{◌≡◌, ℕ, Bool, true, false, List, Result, Ok, Err, if◌then◌else◌}
+use Rattle.std.specs.Prelude.{⊤, ◌≡◌, ℕ, Bool, true, false, List, Result, Ok, Err, if◌then◌else◌}
 use Rattle.tx_tree.specs.declared.row.Row.{Row}
 use Rattle.tx_select.specs.SelectorValue.{SelectorValue}
-use Rattle.tx_app.specs.Scene.{Scene}
+use Rattle.tx_compose.specs.Presented.{Presented, IsScreen}
+use Rattle.tx_picture.specs.Given.{AreBuiltIn}
+use Rattle.tx_app.specs.FirstShown.{first_shown}
 use Rattle.tx_app.specs.declared.openings.Opened.{Opened}
 use Rattle.tx_app.specs.declared.openings.Opened.TheVariants.{Picture, Lines, Matches}
 use Rattle.tx_app.specs.declared.causes.Cause.{Cause}
-use Rattle.tx_app.specs.declared.causes.Cause.TheVariants.{Usage, Refused, ReadFault, SinkFault, NoMemory}
+use Rattle.tx_app.specs.declared.causes.Cause.TheVariants.{Usage, Refused, ReadFault, Fraction, SinkFault, NoMemory}
 
 pub data Opening : Type 0 where
   -- a cause stops the run
   Stops : Cause → Opening
-  -- a scene is shown
-  Opens : Scene → Opening
+  -- this is shown
+  Opens : Presented → Opening
   -- lines are printed
   Prints : List ℕ → Opening
   -- of these rows those that a selector matches are printed
@@ -24,9 +26,10 @@ MayWant false expected = Unit {0}
 MayWant true (Stops Usage) = ⊥
 MayWant true (Stops (Refused file line column kind)) = Unit {0}
 MayWant true (Stops (ReadFault rose)) = ⊥
+MayWant true (Stops (Fraction node axis)) = ⊥
 MayWant true (Stops (SinkFault rose)) = ⊥
 MayWant true (Stops NoMemory) = Unit {0}
-MayWant true (Opens scene) = Unit {0}
+MayWant true (Opens shown) = Unit {0}
 MayWant true (Prints lines) = Unit {0}
 MayWant true (Finds rows selector) = Unit {0}
 
@@ -38,7 +41,13 @@ pub record ComesTo (expected actual : Opening) : Type 0 where
 
 -- what the reader of the files answers
 abbrev pub opened_of : Result Opened Cause → Opening
-opened_of (Ok (Picture scene)) = Opens scene
+opened_of (Ok (Picture tree sheet size)) = Opens (first_shown tree.rows sheet size)
 opened_of (Ok (Lines lines)) = Prints lines.items
 opened_of (Ok (Matches tree selector)) = Finds tree.rows selector
 opened_of (Err cause) = Stops cause
+
+-- what is opened can be shown: the screen is within the limits, and no row is of a kind that is handed in
+abbrev pub CanBeDone : Opened → Type 0
+CanBeDone (Picture tree sheet size) = IsScreen size × AreBuiltIn tree.rows
+CanBeDone (Lines lines) = ⊤
+CanBeDone (Matches tree selector) = ⊤

@@ -5,7 +5,7 @@ use Rattle.tx_io.specs.Loading.{FilesSeen, Load, load_of, after_loads}
 use Rattle.tx_io.specs.Store.{Answer, LoadGives}
 use Rattle.tx_tree.specs.declared.row.Row.{Row}
 use Rattle.tx_select.specs.SelectorValue.{SelectorValue}
-use Rattle.tx_app.specs.Scene.{Scene}
+use Rattle.tx_compose.specs.Presented.{Presented}
 use Rattle.tx_app.specs.Openings.{Opening, Stops, Opens, Prints, Finds, ComesTo}
 use Rattle.tx_app.specs.Loads.{load_cause}
 use Rattle.tx_app.specs.declared.causes.Cause.TheVariants.{Usage, Refused, NoMemory}
@@ -20,8 +20,8 @@ pub data Plan : Type 0 where
   Refuse : List ℕ → ℕ → ℕ → Refusal → Plan
   -- load this name with this limit, and go on with the bytes that it gives
   Read : List ℕ → ℕ → (List ℕ → Plan) → Plan
-  -- show a scene
-  Open : Scene → Plan
+  -- show this
+  Open : Presented → Plan
   -- print lines
   Print : List ℕ → Plan
   -- print those of these rows that a selector matches
@@ -36,7 +36,7 @@ opening_of (Refuse file line column kind) answers = Stops (Refused file line col
 opening_of (Read name limit next) [] = Stops NoMemory
 opening_of (Read name limit next) (Ok bytes ∷ answers) = opening_of (next bytes) answers
 opening_of (Read name limit next) (Err fault ∷ answers) = Stops (load_cause name fault)
-opening_of (Open scene) answers = Opens scene
+opening_of (Open shown) answers = Opens shown
 opening_of (Print lines) answers = Prints lines
 opening_of (Find rows selector) answers = Finds rows selector
 
@@ -48,7 +48,7 @@ loads_of (Refuse file line column kind) answers = []
 loads_of (Read name limit next) [] = []
 loads_of (Read name limit next) (Ok bytes ∷ answers) = load_of name limit (Ok bytes) ∷ loads_of (next bytes) answers
 loads_of (Read name limit next) (Err fault ∷ answers) = load_of name limit (Err fault) ∷ []
-loads_of (Open scene) answers = []
+loads_of (Open shown) answers = []
 loads_of (Print lines) answers = []
 loads_of (Find rows selector) answers = []
 
@@ -63,7 +63,7 @@ Begins Unjudged answers = Unit {0}
 Begins (Refuse file line column kind) answers = Unit {0}
 Begins (Read name limit next) [] = ⊥
 Begins (Read name limit next) (answer ∷ answers) = Unit {0}
-Begins (Open scene) answers = Unit {0}
+Begins (Open shown) answers = Unit {0}
 Begins (Print lines) answers = Unit {0}
 Begins (Find rows selector) answers = Unit {0}
 

@@ -1,46 +1,44 @@
 -- The plan of each task.
-use Rattle.std.specs.Prelude.{◌≡◌, ◌⊎◌, ℕ, ◌+◌, List, ◌++◌, length, Option, Some, None, Result, Ok, Err, codes, decimal}
+use Rattle.std.specs.Prelude.{◌≡◌, ◌⊎◌, ℕ, List, ◌++◌, length, Option, Some, None, Result, Ok, Err, codes, decimal}
+use Rattle.tx_parse.specs.Default.{sheet_value}
 use Rattle.tx_parse.specs.Grammar.{Found}
 use Rattle.tx_parse.specs.Places.{line_of, column_of}
 use Rattle.tx_parse.specs.Texts.{Report, sheet_of}
 use Rattle.tx_tree.specs.declared.row.Row.{Row}
-use Rattle.tx_tree_file.specs.TreeReading.{tree_of}
 use Rattle.tx_select.specs.SelectorValue.{SelectorValue}
 use Rattle.tx_geom.specs.declared.places.Size.{Size}
 use Rattle.tx_app.specs.Words.{Task, Shows, Checks, Queries, asked}
-use Rattle.tx_app.specs.TreeForm.{Fault, rows_or_fault, texts_of, unbuilt}
-use Rattle.tx_app.specs.SheetForm.{looks_of}
-use Rattle.tx_app.specs.Scene.{first_misfit, scene_of}
+use Rattle.tx_app.specs.FirstShown.{first_shown}
+use Rattle.tx_app.specs.Trees.{Fault, rows_of}
 use Rattle.tx_io.specs.Loading.{FilesSeen}
 use Rattle.tx_app.specs.Openings.{Opening}
 use Rattle.tx_app.specs.Loads.{file_limit}
 use Rattle.tx_app.specs.Plan.{Plan, Misuse, Unjudged, Refuse, Read, Open, Print, Find, Begun}
-use Rattle.tx_app.specs.declared.causes.Refusal.TheVariants.{Sheet, Unbuilt}
-use Rattle.tx_app.specs.declared.sheet_form.Looks.{Looks}
+use Rattle.tx_app.specs.declared.causes.Refusal.TheVariants.{Sheet}
 
 -- what stands in a file, or its first line that is at fault
 abbrev pub in_form : {A : Type 0} → List ℕ → Result A Fault → (A → Plan) → Plan
 in_form name (Ok value) next = next value
 in_form name (Err fault) next = Refuse name fault.0 1 fault.1
 
+-- the sheet in these bytes of a file, or its first fault
+abbrev pub in_grammar : List ℕ → List ℕ → Result Found Report → (Found → Plan) → Plan
+in_grammar name bytes (Ok found) next = next found
+in_grammar name bytes (Err report) next = Refuse name (line_of bytes report.1) (column_of bytes report.1) (Sheet report.0)
+
 -- ---- a picture: the tree, and then the sheet
 
--- the scene, where all Statics fit; the i-th stands in line i + 1
-abbrev pub fitted : Size → List ℕ → List (List ℕ) → Looks → Option ℕ → Plan
-fitted size tree texts looks (Some i) = Refuse tree (i + 1) 1 Unbuilt
-fitted size tree texts looks None = Open (scene_of size texts looks)
+abbrev pub shown_plan : Size → List ℕ → List Row → List ℕ → Result Found Report → Plan
+shown_plan size sheet rows bytes read = in_grammar sheet bytes read (λ found. Open (first_shown rows (sheet_value found) size))
 
-abbrev pub looks_plan : Size → List ℕ → List ℕ → List (List ℕ) → Result Looks Fault → Plan
-looks_plan size tree sheet texts looks = in_form sheet looks (λ looks. fitted size tree texts looks (first_misfit size looks.statics.height 1 texts))
+abbrev pub sheet_plan : Size → List ℕ → List Row → Plan
+sheet_plan size sheet rows = Read sheet file_limit (λ bytes. shown_plan size sheet rows bytes (sheet_of bytes))
 
-abbrev pub sheet_plan : Size → List ℕ → List ℕ → List (List ℕ) → Plan
-sheet_plan size tree sheet texts = Read sheet file_limit (λ bytes. looks_plan size tree sheet texts (unbuilt (looks_of bytes)))
-
-abbrev pub texts_plan : Size → List ℕ → List ℕ → Result (List (List ℕ)) Fault → Plan
-texts_plan size tree sheet texts = in_form tree texts (sheet_plan size tree sheet)
+abbrev pub tree_plan : Size → List ℕ → List ℕ → Result (List Row) Fault → Plan
+tree_plan size tree sheet found = in_form tree found (sheet_plan size sheet)
 
 abbrev pub show_plan : Size → List ℕ → List ℕ → Plan
-show_plan size tree sheet = Read tree file_limit (λ bytes. texts_plan size tree sheet (texts_of bytes))
+show_plan size tree sheet = Read tree file_limit (λ bytes. tree_plan size tree sheet (rows_of bytes))
 
 -- ---- the counts of a sheet
 
@@ -54,8 +52,7 @@ counts_line found = counts_of (length found.rules) found.written found.variables
 
 -- the counts, or the first fault
 abbrev pub counted : List ℕ → List ℕ → Result Found Report → Plan
-counted name bytes (Ok found) = Print (counts_line found)
-counted name bytes (Err report) = Refuse name (line_of bytes report.1) (column_of bytes report.1) (Sheet report.0)
+counted name bytes read = in_grammar name bytes read (λ found. Print (counts_line found))
 
 abbrev pub check_plan : List ℕ → Plan
 check_plan name = Read name file_limit (λ bytes. counted name bytes (sheet_of bytes))
@@ -66,7 +63,7 @@ abbrev pub rows_plan : List ℕ → SelectorValue → Result (List Row) Fault �
 rows_plan name selector found = in_form name found (λ rows. Find rows selector)
 
 abbrev pub query_plan : List ℕ → SelectorValue → Plan
-query_plan name selector = Read name file_limit (λ bytes. rows_plan name selector (rows_or_fault (tree_of bytes)))
+query_plan name selector = Read name file_limit (λ bytes. rows_plan name selector (rows_of bytes))
 
 -- ---- all tasks
 

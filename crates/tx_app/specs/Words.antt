@@ -1,7 +1,8 @@
 -- What the words of a command line ask for.
-use Rattle.std.specs.Prelude.{ℕ, ◌≤◌, ◌^◌, ◌==◌, Bool, true, false, not, nat_lt, nat_le, Result, Ok, Err, List, [], ◌∷◌, ◌++◌, length, take, drop, find, Option, Some, None, is_some, if◌then◌else◌, codes, option_and_then, option_map}
+use Rattle.std.specs.Prelude.{ℕ, ◌^◌, ◌==◌, Bool, false, nat_lt, nat_le, Result, Ok, Err, List, [], ◌∷◌, ◌++◌, length, take, drop, find, Option, Some, None, is_some, if◌then◌else◌, codes, option_and_then, option_map}
 use Rattle.std.specs.List.{list_any, before_first, after_first}
 use Rattle.std.specs.Str.{bytes_eq}
+use Rattle.tx_compose.specs.Presented.{IsScreen}
 use Rattle.tx_geom.specs.declared.places.Size.{Size}
 use Rattle.tx_read.specs.Number.{number_at_most}
 use Rattle.tx_select.specs.SelectorValue.{SelectorValue}
@@ -14,13 +15,6 @@ pub record Show : Type 0 where
   pub tree : List ℕ
   pub sheet : List ℕ
   pub size : Size
-
--- a screen within the limits
-pub record IsScreen (size : Size) : Type 0 where
-  pub some_width : 1 ≤ size.width
-  pub width : size.width ≤ 1024
-  pub some_height : 1 ≤ size.height
-  pub height : size.height ≤ 512
 
 -- ---- the words after a mode
 

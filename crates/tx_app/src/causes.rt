@@ -5,9 +5,10 @@ ghost use Rattle.tx_app.specs.Openings.{ComesTo, Stops};
 ghost use Rattle.tx_app.specs.declared.causes.Cause.TheVariants.{Refused};
 
 use std::alloc::Global;
+use tx_geom::Axis;
 use tx_parse::SheetKind;
 use tx_text::Text;
-use tx_tree::TreeKind;
+use tx_tree::{NodeId, TreeKind};
 
 /// Why a run didn't end with status 0.
 #[derive(Debug, Drop)]
@@ -26,6 +27,12 @@ pub enum Cause {
         /// How many calls on the files failed.
         rose: u64,
     },
+    /// The picture is undefined: the arrangement of this container would need a fraction of more
+    /// than 128 bits, in this direction.
+    Fraction {
+        node: NodeId,
+        axis: Axis,
+    },
     /// A put failed.
     SinkFault {
         /// How many puts of the last refresh and of the closing bytes failed, or of the printed line.
@@ -41,10 +48,12 @@ pub enum Refusal {
     Tree(TreeKind),
     /// The place is that of the sheet's first fault.
     Sheet(SheetKind),
+    /// The inline text of the row in this line is outside the grammar.
+    Inline,
+    /// The row in this line is of a kind that was to be handed in.
+    NoCustom,
     /// The file is longer than 4 MiB.
     TooLong,
-    /// The line has a form that can't be shown yet, or its Static doesn't fit on the screen.
-    Unbuilt,
 }
 
 /// A file that is refused, at a line.
@@ -81,6 +90,7 @@ pub fn status_of(cause: &Option<Cause>) -> u8
         Some(Cause::Usage) => 1,
         Some(Cause::Refused { .. }) => 2,
         Some(Cause::ReadFault { .. }) => 3,
+        Some(Cause::Fraction { .. }) => 4,
         Some(Cause::SinkFault { .. }) => 5,
         Some(Cause::NoMemory) => 6,
     }

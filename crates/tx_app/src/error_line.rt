@@ -1,8 +1,9 @@
 //! The words of an error line.
 ghost use Rattle.std.specs.Prelude.{◌≡◌};
-ghost use Rattle.tx_app.specs.ErrorLine.{kind_bytes, tree_kind_bytes, sheet_kind_bytes};
+ghost use Rattle.tx_app.specs.ErrorLine.{axis_bytes, kind_bytes, tree_kind_bytes, sheet_kind_bytes};
 
 use crate::causes::Refusal;
+use tx_geom::Axis;
 use tx_parse::SheetKind;
 use tx_tree::TreeKind;
 
@@ -44,7 +45,17 @@ pub fn kind_bytes(kind: Refusal) -> &'static [u8]
     match kind {
         Refusal::Tree(kind) => tree_kind_bytes(kind),
         Refusal::Sheet(kind) => sheet_kind_bytes(kind),
+        Refusal::Inline => b"Inline",
+        Refusal::NoCustom => b"NoCustom",
         Refusal::TooLong => b"TooLong",
-        Refusal::Unbuilt => b"Unbuilt",
+    }
+}
+
+pub fn axis_bytes(axis: Axis) -> &'static [u8]
+    ensures { result.now ≡ axis_bytes axis }
+{
+    match axis {
+        Axis::Width => b"width",
+        Axis::Height => b"height",
     }
 }

@@ -1,12 +1,14 @@
 //! What happened in a run.
 
+use tx_geom::Axis;
 use tx_text::Items;
+use tx_tree::NodeId;
 
 /// An event of a run.
 #[derive(Clone, Copy, Debug, PartialEq, Eq)]
 pub enum Entry {
-    /// The picture was made and its update sent: how it ended, how many bytes were taken, and how
-    /// many puts failed.
+    /// The picture was to be made and its update sent: how it ended, how many bytes were taken, and
+    /// how many puts failed.
     Refresh {
         result: Refreshed,
         sent: u64,
@@ -22,6 +24,8 @@ pub type Journal = Items<Entry>;
 pub enum Refreshed {
     /// All of the update was taken.
     Accepted,
+    /// The picture is undefined, by this container in this direction. No byte was sent.
+    Fraction { node: NodeId, axis: Axis },
     /// A put failed.
     SinkFault,
     /// Memory was wanting, before the first byte.

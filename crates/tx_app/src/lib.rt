@@ -11,13 +11,12 @@ mod loads;
 mod openings;
 mod outcome;
 mod plans;
+mod refreshing;
 mod report;
 mod run;
-mod scene;
-mod sheet_form;
 #[cfg(test)]
 mod tests;
-mod tree_form;
+mod trees;
 mod words;
 
 pub use causes::{Cause, Refusal};

@@ -1,50 +1,13 @@
 //! The lines of the rows that a selector matches as a run begins.
 ghost use Rattle.std.specs.Prelude.{◌≡◌, ◌++◌, IfOk, IfSome, OnOk};
-ghost use Rattle.tx_tree.specs.Row.{plain};
-ghost use Rattle.tx_select.specs.Holds.{is_disabled};
-ghost use Rattle.tx_app.specs.Listing.{ListsMatches, node_line, first_focus, may_have_focus, opening_state, id_bytes, match_line, lines_of};
+ghost use Rattle.tx_app.specs.Listing.{ListsMatches, node_line, id_bytes, match_line, lines_of};
 
 use itoa::Buffer;
 use std::alloc::{AllocError, Global};
-use tx_select::{Pseudo, Selector, query};
+use tx_opening::opening_state;
+use tx_select::{Selector, query};
 use tx_text::Name;
 use tx_tree::{NodeId, Row, Tree};
-
-/// Whether a row is disabled or has a disabled ancestor.
-#[tactic(auto, unfolding(tx_select::specs::Holds::is_disabled))]
-fn is_disabled(tree: &Tree, row: &Row) -> bool
-    ensures { result ≡ is_disabled tree.now.rows (plain row.now) }
-{
-    row.disabled || tree.ancestors(row.node).any(|above| above.disabled)
-}
-
-fn may_have_focus(tree: &Tree, row: &Row) -> bool
-    ensures { result ≡ may_have_focus tree.now.rows (plain row.now) }
-{
-    row.kind.can_focus() && !is_disabled(tree, row)
-}
-
-/// The row that has the focus as a run begins.
-fn first_focus(tree: &Tree) -> Option<NodeId>
-    ensures { result ≡ first_focus tree.now.rows }
-{
-    for row in tree.walk() {
-        if may_have_focus(tree, row) {
-            return Some(row.node);
-        }
-    }
-    None
-}
-
-fn opening_state(tree: &Tree) -> Pseudo
-    ensures { result ≡ opening_state tree.now.rows }
-{
-    Pseudo {
-        focused: first_focus(tree),
-        pointed: None,
-        dark: true,
-    }
-}
 
 fn push_id(out: &mut Vec<u8>, id: &Option<Name>) -> Result<(), AllocError>
     ensures { OnOk result (out.new.items ≡ out.old.items ++ id_bytes id.now) }

@@ -1,6 +1,6 @@
 //! From the words to what is to be done.
-ghost use Rattle.std.specs.Prelude.{map, string_bytes};
-ghost use Rattle.tx_app.specs.Openings.{opened_of};
+ghost use Rattle.std.specs.Prelude.{map, string_bytes, IfOk};
+ghost use Rattle.tx_app.specs.Openings.{opened_of, CanBeDone};
 ghost use Rattle.tx_app.specs.Plans.{Planned};
 
 mod check;
@@ -18,7 +18,8 @@ use tx_io::Files;
 
 /// What the words ask for, with the files that they name.
 pub fn open_words<F: Files>(alloc: Global, files: &mut F, words: &[String]) -> Result<Opened, Cause>
-    ensures { Planned (map string_bytes words.now) (F.seen files.old) (F.seen files.new) (opened_of result) }
+    ensures planned { Planned (map string_bytes words.now) (F.seen files.old) (F.seen files.new) (opened_of result) }
+    ensures possible { IfOk result CanBeDone }
 {
     match read_words(alloc, words) {
         Ok(Some(Task::Show(show))) => open_show(alloc, files, show.tree, show.sheet, show.size),

@@ -1,12 +1,14 @@
 //! The report: the error line is sent.
 ghost use Rattle.std.specs.Prelude.{false, decimal};
 ghost use Rattle.tx_app.specs.Report.{Says, IsReported};
-ghost use Rattle.tx_app.specs.ErrorLine.{error_bytes, error_line, refused_line};
+ghost use Rattle.tx_app.specs.ErrorLine.{error_bytes, error_line, fraction_line, refused_line};
 
 use crate::causes::{Cause, Refusal};
-use crate::error_line::kind_bytes;
+use crate::error_line::{axis_bytes, kind_bytes};
 use itoa::Buffer;
+use tx_geom::Axis;
 use tx_io::{Sink, send_all};
+use tx_tree::NodeId;
 
 /// Sends a piece behind others, unless a put of those failed. Answers whether one has failed.
 fn say<E: Sink>(err: &mut E, failed: bool, piece: &[u8]) -> bool
@@ -39,6 +41,16 @@ fn say_refused<E: Sink>(err: &mut E, file: &str, line: u32, column: u32, kind: R
     say(err, failed, b"\n")
 }
 
+fn say_fraction<E: Sink>(err: &mut E, node: NodeId, axis: Axis) -> bool
+    ensures { Says (E.seen err.old) (E.seen err.new) false result (fraction_line node axis) }
+{
+    let failed = say(err, false, b"tx: fraction at node ");
+    let failed = say_number(err, failed, node.0);
+    let failed = say(err, failed, b" ");
+    let failed = say(err, failed, axis_bytes(axis));
+    say(err, failed, b"\n")
+}
+
 fn say_cause<E: Sink>(err: &mut E, cause: &Cause) -> bool
     ensures { Says (E.seen err.old) (E.seen err.new) false result (error_line cause.now) }
 {
@@ -51,6 +63,7 @@ fn say_cause<E: Sink>(err: &mut E, cause: &Cause) -> bool
             kind,
         } => say_refused(err, file.as_str(), *line, *column, *kind),
         Cause::ReadFault { .. } => say(err, false, b"tx: read fault\n"),
+        Cause::Fraction { node, axis } => say_fraction(err, *node, *axis),
         Cause::SinkFault { .. } => say(err, false, b"tx: sink fault\n"),
         Cause::NoMemory => say(err, false, b"tx: no memory\n"),
     }

@@ -1,6 +1,7 @@
 mod checks;
 mod command_lines;
 mod host;
+mod pictures;
 mod queries;
 mod recorded;
 
@@ -62,6 +63,10 @@ const BLANK: &[u8] =
 
 const TWO: &[u8] =
     b"\x18\x1b[?1049h\x1b[?25l\x1b[0m\x1b[2J\x1b[1;1H\x1b[0;38;2;255;255;255;48;2;0;0;0mab    \x1b[2;1H      \x18\x1b[0m\x1b[?25h\x1b[?1049l";
+
+/// The same without a sheet.
+const PLAIN: &[u8] =
+    b"\x18\x1b[?1049h\x1b[?25l\x1b[0m\x1b[2J\x1b[1;1H\x1b[0;38;2;224;224;224;48;2;18;18;18mab    \x1b[2;1H      \x18\x1b[0m\x1b[?25h\x1b[?1049l";
 
 const TALL: &[u8] =
     b"\x18\x1b[?1049h\x1b[?25l\x1b[0m\x1b[2J\x1b[1;1H\x1b[0;38;2;10;11;12;48;2;1;2;3mx \x1b[2;1H  \x1b[3;1Hyz\x1b[4;1H  \x1b[5;1H\x1b[0;38;2;10;11;12;48;2;18;18;18m  \x18\x1b[0m\x1b[?25h\x1b[?1049l";
@@ -196,7 +201,7 @@ fn is_cause(cause: &Option<Cause>, status: u8) -> bool {
         ) => status == 2 && *line == 0 && *column == 0,
         Some(
             Cause::Refused {
-                kind: Refusal::Unbuilt | Refusal::Tree(_),
+                kind: Refusal::Inline | Refusal::NoCustom | Refusal::Tree(_),
                 column,
                 ..
             },
@@ -210,6 +215,7 @@ fn is_cause(cause: &Option<Cause>, status: u8) -> bool {
             },
         ) => status == 2 && *line > 0 && *column > 0,
         Some(Cause::ReadFault { rose }) => status == 3 && *rose == 1,
+        Some(Cause::Fraction { .. }) => status == 4,
         Some(Cause::SinkFault { .. }) => status == 5,
         Some(Cause::NoMemory) => status == 6,
     }
@@ -264,44 +270,33 @@ fn refuses_trees(rt: &HostRuntime, cases: &[(&[u8], &str)]) -> Result<(), Fail> 
     Ok(())
 }
 
+/// A kind that isn't built in comes before an inline text, also before an earlier one, and the line
+/// counts those of the bindings above.
 #[test]
-fn the_first_row_outside_the_form_is_named(rt: HostRuntime) -> Result<(), Fail> {
-    let cases: [(&[u8], &str); 9] = [
-        (b"Screen\n  Button\n", "tx: t.tree:2:1: Unbuilt\n"),
-        (b"Screen #a\n  Static\n", "tx: t.tree:1:1: Unbuilt\n"),
+fn the_first_row_that_is_not_taken_is_named(rt: HostRuntime) -> Result<(), Fail> {
+    let cases: [(&[u8], &str); 5] = [
+        (b"Screen\n  Meter\n", "tx: t.tree:2:1: NoCustom\n"),
         (
-            b"Screen\n  bind a focus_next\n  Button\n",
-            "tx: t.tree:1:1: Unbuilt\n",
+            b"Screen\n  Static { width }\n  Meter\n",
+            "tx: t.tree:3:1: NoCustom\n",
         ),
         (
-            b"Screen\n  Static\n  Static disabled\n",
-            "tx: t.tree:3:1: Unbuilt\n",
+            b"Screen\n  bind a focus_next\n  Static\n    bind b focus_next\n    bind c focus_next\n  Label { width }\n",
+            "tx: t.tree:6:1: Inline\n",
         ),
         (
-            b"Screen\n  Static\n    bind a focus_next\n",
-            "tx: t.tree:2:1: Unbuilt\n",
+            b"Screen\n  bind a focus_next\n  Label { width }\n  Gauge #g\n",
+            "tx: t.tree:4:1: NoCustom\n",
         ),
         (
-            b"Screen\n  Static \"a\\\\b\"\n",
-            "tx: t.tree:2:1: Unbuilt\n",
-        ),
-        (
-            b"Screen\n  Static \"\xc3\xa9\"\n",
-            "tx: t.tree:2:1: Unbuilt\n",
-        ),
-        (
-            b"Screen\n  Static\n  Static\n  Static\n",
-            "tx: t.tree:4:1: Unbuilt\n",
-        ),
-        (
-            b"Screen\n  Static \"abcdefg\"\n",
-            "tx: t.tree:2:1: Unbuilt\n",
+            b"Screen { width }\n  Static { }\n",
+            "tx: t.tree:1:1: Inline\n",
         ),
     ];
     refuses_trees(&rt, &cases)
 }
 
-/// A fault of the tree file comes before a row outside the form, also before an earlier one.
+/// A fault of the tree file comes before a row that isn't taken, also before an earlier one.
 #[test]
 fn the_first_fault_of_a_tree_is_named(rt: HostRuntime) -> Result<(), Fail> {
     let cases: [(&[u8], &str); 9] = [
@@ -317,7 +312,7 @@ fn the_first_fault_of_a_tree_is_named(rt: HostRuntime) -> Result<(), Fail> {
             "tx: t.tree:3:1: DuplicateId\n",
         ),
         (
-            b"Screen #a\n  Static\n  static\n",
+            b"Screen #a\n  Meter\n  static\n",
             "tx: t.tree:3:1: Expected\n",
         ),
     ];
@@ -325,15 +320,18 @@ fn the_first_fault_of_a_tree_is_named(rt: HostRuntime) -> Result<(), Fail> {
 }
 
 #[test]
-fn the_first_sheet_line_outside_the_form_is_named(rt: HostRuntime) -> Result<(), Fail> {
+fn the_first_fault_of_a_sheet_is_named(rt: HostRuntime) -> Result<(), Fail> {
     let cases: [(&[u8], &str); 4] = [
         (
-            b"Static { height: 1; }\nStatic { width: 1; }\n",
-            "tx: s.tcss:2:1: Unbuilt\n",
+            b"Static { height: 1; }\nStatic { widt: 1; }\n",
+            "tx: s.tcss:2:10: UnknownProperty\n",
         ),
-        (b"Static { height: 1000; }\n", "tx: s.tcss:1:1: Unbuilt\n"),
-        (b"Static { height: 1; }", "tx: s.tcss:1:1: Unbuilt\n"),
-        (b"", "tx: t.tree:2:1: Unbuilt\n"),
+        (
+            b"Static { color: $hot; }\n$hot: red;\n",
+            "tx: s.tcss:1:17: UndefinedVariable\n",
+        ),
+        (b"Button { color: red", "tx: s.tcss:1:20: Expected\n"),
+        (b"Static { height: 1; } /* ", "tx: s.tcss:1:23: Unclosed\n"),
     ];
     for (sheet, line) in cases {
         refuses(&rt, &Given { sheet, ..STATICS }, 2, line)?;
@@ -341,20 +339,31 @@ fn the_first_sheet_line_outside_the_form_is_named(rt: HostRuntime) -> Result<(),
     Ok(())
 }
 
+/// What is wrong with the tree comes before what is wrong with the sheet.
+#[test]
+fn a_tree_comes_before_a_sheet(rt: HostRuntime) -> Result<(), Fail> {
+    let given = Given {
+        tree: b"Screen\n  Static { width }\n",
+        sheet: b"Static {",
+        ..STATICS
+    };
+    refuses(&rt, &given, 2, "tx: t.tree:2:1: Inline\n")
+}
+
 #[test]
 fn a_file_has_at_most_4_mib(rt: HostRuntime) -> Result<(), Fail> {
     let mut long = Vec::new(rt.alloc());
-    long.resize(4_194_304, b'a')?;
-    refuses(
+    long.resize(4_194_304, b' ')?;
+    shows(
         &rt,
         &Given {
             sheet: &long,
             ..STATICS
         },
-        2,
-        "tx: s.tcss:1:1: Unbuilt\n",
+        PLAIN,
+        82,
     )?;
-    long.push(b'a')?;
+    long.push(b' ')?;
     refuses(
         &rt,
         &Given {
@@ -446,7 +455,7 @@ fn each_file_is_loaded_once_in_its_turn(rt: HostRuntime) -> Result<(), Fail> {
         ..STATICS
     };
     let other_tree = Given {
-        tree: b"Screen\n  Button\n",
+        tree: b"Screen\n  Meter\n",
         ..STATICS
     };
     let no_words = Given {
@@ -473,10 +482,10 @@ fn each_file_is_loaded_once_in_its_turn(rt: HostRuntime) -> Result<(), Fail> {
 /// What `err` takes of the line changes nothing else.
 #[test]
 fn the_error_line_may_be_cut_at_each_byte(rt: HostRuntime) -> Result<(), Fail> {
-    let line = "tx: t.tree:2:1: Unbuilt\n";
-    for k in 0..24u64 {
+    let line = "tx: t.tree:2:1: NoCustom\n";
+    for k in 0..25u64 {
         let given = Given {
-            tree: b"Screen\n  Button\n",
+            tree: b"Screen\n  Meter\n",
             err_fails: &[k],
             ..STATICS
         };

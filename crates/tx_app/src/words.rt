@@ -3,7 +3,8 @@ ghost use Rattle.std.specs.Prelude.{◌≡◌, ◌≤◌, map, option_map, strin
 ghost use Rattle.clap.specs.Walk.{all_of, first_of};
 ghost use Rattle.clap.specs.Words.{found_of, rows_of, subcommand_rows_of};
 ghost use Rattle.tx_app.specs.CommandLine.{asked_by, asked_in, asked_with, words_id};
-ghost use Rattle.tx_app.specs.Words.{IsScreen, asked, shows, checks, queries, selector_in, side, side_or, size_of, task_of, IsPossible};
+ghost use Rattle.tx_compose.specs.Presented.{IsScreen};
+ghost use Rattle.tx_app.specs.Words.{asked, shows, checks, queries, selector_in, side, side_or, size_of, task_of, IsPossible};
 
 use crate::command_line::command;
 use clap::ArgMatches;

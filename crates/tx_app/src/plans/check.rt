@@ -1,7 +1,7 @@
 //! The counts of a sheet.
 ghost use Rattle.std.specs.Prelude.{◌≡◌, ◌<◌, ◌^◌, [], length, decimal, ◌++◌, IfOk, OnOk};
 ghost use Rattle.tx_parse.specs.Texts.{sheet_of};
-ghost use Rattle.tx_app.specs.Openings.{opened_of, ComesTo, Prints};
+ghost use Rattle.tx_app.specs.Openings.{opened_of, ComesTo, CanBeDone, Prints};
 ghost use Rattle.tx_app.specs.Plan.{Begun, opening_of};
 ghost use Rattle.tx_app.specs.Plans.{check_plan, counted, counts_of};
 
@@ -41,7 +41,8 @@ fn counts_of(
 
 /// The counts of a sheet.
 fn counts_line(alloc: Global, sheet: &Sheet) -> Result<Opened, Cause>
-    ensures { ComesTo (Prints (counts_of (length sheet.now.rules) sheet.now.declarations sheet.now.variables)) (opened_of result) }
+    ensures opens { ComesTo (Prints (counts_of (length sheet.now.rules) sheet.now.declarations sheet.now.variables)) (opened_of result) }
+    ensures possible { IfOk result CanBeDone }
 {
     let rules = sheet.rules().as_slice().len();
     match counts_of(alloc, rules, sheet.declarations(), sheet.variables()) {
@@ -53,7 +54,8 @@ fn counts_line(alloc: Global, sheet: &Sheet) -> Result<Opened, Cause>
 /// The counts of the sheet in these bytes.
 fn open_counts(alloc: Global, name: &str, bytes: &[u8]) -> Result<Opened, Cause>
     requires { length bytes.now < 2 ^ 32 }
-    ensures { ComesTo (opening_of (counted name.now bytes.now (sheet_of bytes.now)) []) (opened_of result) }
+    ensures opens { ComesTo (opening_of (counted name.now bytes.now (sheet_of bytes.now)) []) (opened_of result) }
+    ensures possible { IfOk result CanBeDone }
 {
     match read_sheet(alloc, bytes) {
         Ok(sheet) => counts_line(alloc, &sheet),
@@ -66,7 +68,8 @@ fn open_counts(alloc: Global, name: &str, bytes: &[u8]) -> Result<Opened, Cause>
 
 /// The counts of a sheet that is to be loaded.
 pub fn open_check<F: Files>(alloc: Global, files: &mut F, name: &str) -> Result<Opened, Cause>
-    ensures { Begun (F.seen files.old) (F.seen files.new) (check_plan name.now) (opened_of result) }
+    ensures opens { Begun (F.seen files.old) (F.seen files.new) (check_plan name.now) (opened_of result) }
+    ensures possible { IfOk result CanBeDone }
 {
     match load(alloc, files, name) {
         Ok(bytes) => open_counts(alloc, name, &bytes),

@@ -43,10 +43,10 @@ fn matches_are_printed(rt: HostRuntime) -> Result<(), Fail> {
 fn the_first_row_that_may_has_the_focus(rt: HostRuntime) -> Result<(), Fail> {
     let given = Given {
         words: &["tx", "query", "t.tree", ":focus"],
-        tree: b"Screen\n  Container disabled\n    Button #a\n  Button #b disabled\n  Meter #c\n  Input #d\n",
+        tree: b"Screen\n  Container disabled\n    Button #a\n  Button #b disabled\n  VerticalScroll #c\n  Input #d\n",
         ..QUERY
     };
-    prints(&rt, &given, "5 Meter #c\n")
+    prints(&rt, &given, "5 VerticalScroll #c\n")
 }
 
 #[test]
@@ -99,4 +99,19 @@ fn a_sink_may_fail_at_each_byte(rt: HostRuntime) -> Result<(), Fail> {
         assert!(rt; matches!(&ran.outcome.cause, Some(Cause::SinkFault { rose: 1 })));
     }
     Ok(())
+}
+
+/// Rows are refused as for a picture.
+#[test]
+fn trees_are_taken_as_for_a_picture(rt: HostRuntime) -> Result<(), Fail> {
+    let meter = Given {
+        tree: b"Screen\n  Static { width }\n  Meter\n",
+        ..QUERY
+    };
+    let inline = Given {
+        tree: b"Screen\n    bind a focus_next\n  Static { width }\n",
+        ..QUERY
+    };
+    refuses(&rt, &meter, 2, "tx: t.tree:3:1: NoCustom\n")?;
+    refuses(&rt, &inline, 2, "tx: t.tree:2:1: BadIndent\n")
 }

@@ -1,8 +1,7 @@
-use Rattle.std.proofs.Common.{rules, ◌≡◌, ◌∙◌, ◌||◌, ap, ap₂, true, false, codes, ◌∷◌, [], List}
+use Rattle.std.proofs.Common.{rules, ◌≡◌, ◌∙◌, ◌||◌, ap, ap₂, true, codes, []}
 use Rattle.std.proofs.lemmas.Result.{IfOk-weaker}
 use Rattle.clap.specs.Simple.{App, Shape, app_of, app_of_fields, shape_of, new_app, on_top, with_rule, with_subcommand}
-use Rattle.clap.specs.Walk.{rule_of}
-use Rattle.tx_app.specs.CommandLine.{command_app, mode_shape, option_rule, words_rule}
+use Rattle.tx_app.specs.CommandLine.{mode_shape}
 use Rattle.tx_app.specs.Words.{size_options}
 use Rattle.tx_app.proofs.command_line.command.Goals as goal
 

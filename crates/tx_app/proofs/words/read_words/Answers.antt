@@ -1,9 +1,9 @@
-use Rattle.std.proofs.Common.{◌≡◌, ◌∙◌, ◌⊎◌, inl, inr, ap, sym, subst, refl, true, map, string_bytes, List, [], ℕ}
+use Rattle.std.proofs.Common.{◌≡◌, ◌∙◌, inl, inr, ap, sym, subst, refl, true, map, string_bytes, List, [], ℕ}
 use Rattle.std.proofs.lemmas.Result.{IfOk-weaker}
 use Rattle.std.proofs.lemmas.Str.{IsUtf8-string_bytes}
 use Rattle.clap.specs.Faults.{fault_of, is_simple_and_free}
 use Rattle.clap.specs.Kinds.{HasKind}
-use Rattle.clap.specs.Simple.{HasMatchesOf, app_of, subcommand_of}
+use Rattle.clap.specs.Simple.{HasMatchesOf, subcommand_of}
 use Rattle.clap.specs.Words.{subcommand_rows_of}
 use Rattle.tx_app.specs.CommandLine.{asked_in, command_app}
 use Rattle.tx_app.proofs.CommandLemmas.{is_judgeable, judged_fine, judged_faulty, texts_begin}

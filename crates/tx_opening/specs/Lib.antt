@@ -1,0 +1,3 @@
+pub mod OpeningFaults
+pub mod OpeningReading
+pub mod OpeningState
