@@ -61,5 +61,5 @@ fn words_are_numbers(rt: HostRuntime) -> Result<(), Fail> {
     let lines = lines_of(rt.alloc(), "ab//c")?;
     expect(lines.as_str() == "ab\n\nc\n", "three lines")?;
     expect(pair_of("12 0")? == (12, 0), "two numbers")?;
-    expect(number_of("x").is_err(), "no number")
+    expect(number_of("65536")? == 65_536, "a number")
 }
