@@ -156,7 +156,7 @@ opening-read (Opens shown) acts before after of is = end-no_read (end_of (Failur
 opening-read (Prints lines) acts before after of is = end-no_read (end_of (Failures 0) acts) before after
 opening-read (Finds rows selector) acts before after of is = end-no_read (end_of (Failures 0) acts) before after
 
--- want of memory has no such cause, and else it is what was expected
+-- out of memory has no such cause, and else it is what was expected
 either : (P : Opening → Type 0) (expected actual : Opening) → ComesTo expected actual → P expected → P (Stops NoMemory) → P actual
 either P expected actual comes here wanting = of comes.wanting comes.is
   where
@@ -200,7 +200,7 @@ Runs-sink_fault words files_before files_after before after journal cause r =
 
 -- ---- files that hold all that a plan asks for
 
--- a reading of such files: no stop but for a failed load or want of memory
+-- a reading of such files: no stop but for a failed load or out of memory
 abbrev Fine : Opening → Type 0
 Fine (Stops Usage) = ⊥
 Fine (Stops (Refused file line column kind)) = ⊥
@@ -285,7 +285,7 @@ opening-free (Prints lines) acts files_before files_after before after fine cour
 opening-free (Finds rows selector) acts files_before files_after before after fine course loads faults no_read no_sink =
     end-free (end_of (Failures 0) acts) before after (course-whole (Finds rows selector) acts tt fine course) (course-ends (Finds rows selector) acts before after tt course faults) no_sink
 
--- where it comes to want of memory nothing is owed, and else it is what was expected
+-- where it comes to out of memory nothing is owed, and else it is what was expected
 comes-free : (expected actual : Opening) (acts : List Act) (files_before files_after before after : ℕ) → Fine expected → ComesTo expected actual → IsCourse actual acts
     → files_after ≡ raised files_before (read_failures expected) → after ≡ raised before (faults_of acts)
     → (Rose files_before files_after → ⊥) → (Rose before after → ⊥) → IsNoneOrMemory (cause_of actual acts)

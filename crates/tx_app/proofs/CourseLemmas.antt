@@ -45,7 +45,7 @@ raised-none n = omega arith
 raised-twice : (n a b : ℕ) → raised (raised n a) b ≡ raised n (a + b)
 raised-twice n a b = omega arith
 
--- memory was wanting
+-- memory ran out
 pub Refreshes-unmade : (before : SinkSeen) (shown : Presented) (entry : Entry) → entry ∷ [] ≡ act_entries Unmade → Refreshes before before shown entry
 Refreshes-unmade before shown entry is = record {
   act = Unmade;
@@ -93,7 +93,7 @@ IsDone-stopped before journal cause = record {
   cause_is = refl;
 }
 
--- memory was wanting before the refresh
+-- memory ran out before the refresh
 pub Does-wanting : (before : SinkSeen) (shown : Presented) (journal : List Entry) → Does (Opens shown) before before journal journal (Some NoMemory)
 Does-wanting before shown journal = record {
   actual = Stops NoMemory;
@@ -165,7 +165,7 @@ Does-list before after rows selector lines given cause lists same d = of d.comes
       };
     }
 
--- memory was wanting for them
+-- memory ran out for them
 pub Does-unlisted : (before : SinkSeen) (rows : List Row) (selector : SelectorValue) → Does (Finds rows selector) before before [] [] (Some NoMemory)
 Does-unlisted before rows selector = record {
   actual = Stops NoMemory;
@@ -243,7 +243,7 @@ entry_cause-of (Writes lines sent) shown entry closed is same = absurd is
 
 -- ---- the run of a picture
 
--- memory was wanting before the refresh, and nothing stands in the journal
+-- memory ran out before the refresh, and nothing stands in the journal
 pub Does-unbegun : (before : SinkSeen) (shown : Presented) (items : List Entry) → items ≡ [] → Does (Opens shown) before before [] items (Some NoMemory)
 Does-unbegun before shown items none = subst (λ (all : List Entry). Does (Opens shown) before before [] all (Some NoMemory)) (sym none) (Does-wanting before shown [])
 

@@ -131,7 +131,7 @@ pub Planned-task : (before after : FilesSeen) (words : List (List ℕ)) (task : 
     → Begun before after (plan_of task) actual → Planned words before after actual
 Planned-task before after words task actual asks b = record { plan = plan_of task; planned = inl (ap plan_of asks); reads = b }
 
--- memory was wanting to judge the words
+-- memory ran out to judge the words
 pub Planned-unjudged : (before : FilesSeen) (words : List (List ℕ)) → Planned words before before (Stops NoMemory)
 Planned-unjudged before words = record {
   plan = Unjudged;
@@ -143,12 +143,12 @@ Planned-unjudged before words = record {
 pub Begun-misuse : (before : FilesSeen) → Begun before before (plan_of None) (Stops Usage)
 Begun-misuse before = record { follows = Follows-here before (plan_of None) (Stops Usage) (record { wanting = false; is = refl; may = tt }); begins = tt }
 
--- memory was wanting for a tree that a selector is for
+-- memory ran out for a tree that a selector is for
 pub ComesTo-rows : (name : List ℕ) (selector : SelectorValue) (found : Result (List Row) Fault) → ComesTo (opening_of (rows_plan name selector found) []) (Stops NoMemory)
 ComesTo-rows name selector (Ok rows) = record { wanting = true; is = refl; may = tt }
 ComesTo-rows name selector (Err fault) = record { wanting = true; is = refl; may = tt }
 
--- memory was wanting for a tree or for a sheet that is shown
+-- memory ran out for a tree or for a sheet that is shown
 pub Follows-untree : (before : FilesSeen) (size : Size) (tree sheet : List ℕ) (found : Result (List Row) Fault) → Follows before before (tree_plan size tree sheet found) (Stops NoMemory)
 Follows-untree before size tree sheet (Ok rows) = Follows-here before (tree_plan size tree sheet (Ok rows)) (Stops NoMemory) (record { wanting = false; is = refl; may = tt })
 Follows-untree before size tree sheet (Err fault) = Follows-here before (tree_plan size tree sheet (Err fault)) (Stops NoMemory) (record { wanting = true; is = refl; may = tt })

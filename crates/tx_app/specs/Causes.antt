@@ -8,7 +8,7 @@ use Rattle.tx_app.specs.Openings.{Opening, Stops, Opens, Prints, Finds}
 use Rattle.tx_app.specs.declared.causes.Cause.{Cause}
 use Rattle.tx_app.specs.declared.causes.Cause.TheVariants.{Usage, Refused, ReadFault, Fraction, SinkFault, NoMemory}
 
--- How it stands after the last refresh and what was sent behind it: memory was wanting for that refresh, its picture was undefined, or so
+-- How it stands after the last refresh and what was sent after it: memory ran out for that refresh, its picture was undefined, or so
 -- many puts failed.
 pub data End : Type 0 where
   Wanting : End
@@ -42,7 +42,7 @@ end_cause Wanting = Some NoMemory
 end_cause (Broken node axis) = Some (Fraction node axis)
 end_cause (Failures n) = sink_cause n
 
--- what stopped the run decides first, then the last refresh, and then what was sent behind it
+-- what stopped the run decides first, then the last refresh, and then what was sent after it
 abbrev pub cause_of : Opening → List Act → Option Cause
 cause_of (Stops cause) acts = Some cause
 cause_of (Opens shown) acts = end_cause (end_of (Failures 0) acts)

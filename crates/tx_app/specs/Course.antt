@@ -14,7 +14,7 @@ use Rattle.tx_app.specs.FirstShown.{at_first}
 use Rattle.tx_app.specs.Openings.{Opening, Stops, Opens, Prints, Finds}
 
 pub data Act : Type 0 where
-  -- a refresh for which memory was wanting, before its first byte
+  -- a refresh for which memory ran out, before its first byte
   Unmade : Act
   -- a refresh whose picture is undefined: the first container whose arrangement is, and along which axis
   Undefined : NodeId → Axis → Act
@@ -63,7 +63,7 @@ pub record IsUpdate (shown : Presented) (bytes : List ℕ) : Type 0 where
   pub blank : IsGrid (at_first shown.size)
   pub formed : IsGrid picture
 
--- the update of the picture was sent; or the picture is undefined; or memory was wanting
+-- the update of the picture was sent; or the picture is undefined; or memory ran out
 abbrev pub IsRefresh : Presented → Act → Type 0
 IsRefresh shown Unmade = ⊤
 IsRefresh shown (Undefined node axis) = composed shown ≡ Err (node, axis)

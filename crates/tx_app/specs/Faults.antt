@@ -1,4 +1,4 @@
--- What stands behind the statuses: risen counts, and when there is no cause but want of memory.
+-- What the statuses stand for: risen counts, and when there is no cause but that memory ran out.
 use Rattle.std.specs.Prelude.{◌≡◌, ◌≤◌, ◌<◌, ◌^◌, ℕ, List, [], ◌∷◌, length, All, Option, Some, None, codes, IsOk}
 use Rattle.tx_io.specs.Faults.{raised, Rose}
 use Rattle.tx_compose.specs.Presented.{IsScreen, composed}
@@ -36,7 +36,7 @@ abbrev pub CausedBy : Option ℕ → ℕ → ℕ → Type 0
 CausedBy None before after = Unit {0}
 CausedBy (Some rose) before after = (1 ≤ rose) × (after ≡ raised before rose) × Rose before after
 
--- no cause, or want of memory
+-- no cause, or out of memory
 abbrev pub IsNoneOrMemory : Option Cause → Type 0
 IsNoneOrMemory None = Unit {0}
 IsNoneOrMemory (Some NoMemory) = Unit {0}

@@ -40,7 +40,7 @@ pub record AreRead (words : List (List ℕ)) (before after : FilesSeen) (shown :
   pub sheet_is : sheet_of sheet ≡ Ok found
   pub is : shown ≡ first_shown rows (sheet_value found) show.size
 
--- A refresh of so many bytes was accepted. What was sent is these bytes, and closing bytes behind them. After the bytes of the refresh each
+-- A refresh of so many bytes was accepted. What was sent is these bytes, and closing bytes after them. After the bytes of the refresh each
 -- terminal of that size, in whatever state it was, shows the picture.
 pub record ShowsPicture (words : List (List ℕ)) (files_before files_after : FilesSeen) (out_before out_after : SinkSeen) (sent : ℕ) : Type 0 where
   pub shown : Presented

@@ -20,7 +20,7 @@ load_cause name Failed = ReadFault 1
 load_cause name PastLimit = Refused name 0 0 TooLong
 load_cause name NoRoom = NoMemory
 
--- the bytes that were loaded, or the cause, or that memory was wanting for that
+-- the bytes that were loaded, or the cause, or that memory ran out for that
 abbrev pub GivesLoaded : List ℕ → Answer → Result (Vec ℕ Global) Cause → Type 0
 GivesLoaded name (Ok bytes) (Ok read) = (read.items ≡ bytes) × (length bytes ≤ file_limit)
 GivesLoaded name (Ok bytes) (Err cause) = ⊥

@@ -20,7 +20,7 @@ pub data Opening : Type 0 where
   -- of these rows those that a selector matches are printed
   Finds : List Row → SelectorValue → Opening
 
--- Memory may be wanting, but not where the words are refused or a load failed: no memory is taken for these.
+-- Memory may run out, but not where the words are refused or a load failed: no memory is taken for these.
 abbrev pub MayWant : Bool → Opening → Type 0
 MayWant false expected = Unit {0}
 MayWant true (Stops Usage) = ⊥
@@ -33,7 +33,7 @@ MayWant true (Opens shown) = Unit {0}
 MayWant true (Prints lines) = Unit {0}
 MayWant true (Finds rows selector) = Unit {0}
 
--- what is expected, or that memory was wanting for it
+-- what is expected, or that memory ran out for it
 pub record ComesTo (expected actual : Opening) : Type 0 where
   pub wanting : Bool
   pub is : actual ≡ (if wanting then Stops NoMemory else expected)

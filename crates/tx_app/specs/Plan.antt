@@ -14,7 +14,7 @@ use Rattle.tx_app.specs.declared.causes.Refusal.{Refusal}
 pub data Plan : Type 0 where
   -- stop: the words are refused
   Misuse : Plan
-  -- stop: memory was wanting to judge the words
+  -- stop: memory ran out to judge the words
   Unjudged : Plan
   -- stop: a file is at fault, at this line and column, by this
   Refuse : List ℕ → ℕ → ℕ → Refusal → Plan
@@ -28,7 +28,7 @@ pub data Plan : Type 0 where
   Find : List Row → SelectorValue → Plan
 
 -- What it comes to, by what the loads answer in their order. Where a further load is to be made and there is no answer,
--- memory was wanting before it.
+-- memory ran out before it.
 abbrev pub opening_of : Plan → List Answer → Opening
 opening_of Misuse answers = Stops Usage
 opening_of Unjudged answers = Stops NoMemory
@@ -56,7 +56,7 @@ loads_of (Find rows selector) answers = []
 abbrev pub AreOfFiles : Option (List ℕ → Option (List ℕ)) → List Load → Type 0
 AreOfFiles contents loads = IfSome contents (λ told. AllByRecursion (λ (load : Load). LoadGives (told load.name) load.limit load.answer) loads)
 
--- a first load isn't left out for want of memory
+-- a first load isn't left out where memory runs out
 abbrev pub Begins : Plan → List Answer → Type 0
 Begins Misuse answers = Unit {0}
 Begins Unjudged answers = Unit {0}

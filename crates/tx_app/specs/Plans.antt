@@ -80,7 +80,7 @@ plan_of (Some task) = task_plan task
 abbrev pub plan_of_words : List (List ℕ) → Plan
 plan_of_words words = plan_of (asked words)
 
--- the plan that is followed: that of the words, or memory was wanting to judge them, also where they are refused
+-- the plan that is followed: that of the words, or memory ran out to judge them, also where they are refused
 abbrev pub IsPlanned : List (List ℕ) → Plan → Type 0
 IsPlanned words plan = (plan ≡ plan_of_words words) ⊎ (plan ≡ Unjudged)
 

@@ -23,7 +23,7 @@ pub record Refreshes (before after : SinkSeen) (shown : Presented) (entry : Entr
   pub faults : after.faults ≡ raised before.faults (act_faults act)
   pub entry_is : entry ∷ [] ≡ act_entries act
 
--- the cause of a run whose last refresh has this entry, behind the closing bytes
+-- the cause of a run whose last refresh has this entry, after the closing bytes
 abbrev pub entry_cause : Entry → Sent → Option Cause
 entry_cause (Refresh NoGrid sent faults) closed = Some NoMemory
 entry_cause (Refresh (NoPicture node axis) sent faults) closed = Some (Fraction node axis)

@@ -1,4 +1,4 @@
--- Pieces of a line that are sent one behind another.
+-- Pieces of a line that are sent one after another.
 use Rattle.std.specs.Prelude.{◌≡◌, ℕ, Bool, List, ◌++◌}
 use Rattle.tx_io.specs.declared.send.Sent.{Sent}
 use Rattle.tx_io.specs.Sending.{Sends}
@@ -10,7 +10,7 @@ pub record Said (before now : SinkSeen) (bytes : List ℕ) (failed : Bool) : Typ
   pub sends : Sends before now bytes sent
   pub known : sent.failed ≡ failed
 
--- this piece was sent behind whatever was sent before it
+-- this piece was sent after whatever was sent before it
 pub record Says (old new : SinkSeen) (failed_old failed_new : Bool) (piece : List ℕ) : Type 0 where
   pub behind : (before : SinkSeen) (all : List ℕ) → Said before old all failed_old → Said before new (all ++ piece) failed_new
 

@@ -26,7 +26,7 @@ pub record IsDone (opening : Opening) (before after : SinkSeen) (journal_before 
   pub journal : journal_after ≡ journal_before ++ entries_of acts
   pub cause_is : cause ≡ cause_of opening acts
 
--- It is shown or printed, or memory was wanting for that.
+-- It is shown or printed, or memory ran out for that.
 pub record Does (opening : Opening) (before after : SinkSeen) (journal_before journal_after : List Entry) (cause : Option Cause) : Type 0 where
   pub actual : Opening
   pub comes : ComesTo opening actual

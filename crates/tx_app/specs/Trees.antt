@@ -28,7 +28,7 @@ rows_of bytes = taken (rows_read [] bytes)
 
 -- ---- what their reader answers
 
--- the line and what is wrong there, and nothing of want of memory
+-- the line and what is wrong there, and nothing where memory ran out
 abbrev pub told : TreeStop → Option Fault
 told (At line kind) = Some (line, kind)
 told NoMemory = None

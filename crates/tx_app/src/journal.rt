@@ -28,6 +28,6 @@ pub enum Refreshed {
     Fraction { node: NodeId, axis: Axis },
     /// A put failed.
     SinkFault,
-    /// Memory was wanting, before the first byte.
+    /// Memory ran out, before the first byte.
     NoMemory,
 }

@@ -54,7 +54,7 @@ fn lines_of(alloc: Global, tree: &Tree, nodes: &[NodeId]) -> Result<Vec<u8>, All
     Ok(lines)
 }
 
-/// A line for each row that a selector matches. None where memory is wanting.
+/// A line for each row that a selector matches. None where memory runs out.
 pub fn matching_lines(alloc: Global, tree: &Tree, selector: &Selector) -> Option<Vec<u8>>
     ensures { IfSome result (λ lines. ListsMatches tree.now.rows selector.now lines.items) }
 {

@@ -10,7 +10,7 @@ use tx_geom::Axis;
 use tx_io::{Sink, send_all};
 use tx_tree::NodeId;
 
-/// Sends a piece behind others, unless a put of those failed. Answers whether one has failed.
+/// Sends a piece after others, unless a put of those failed. Answers whether one has failed.
 fn say<E: Sink>(err: &mut E, failed: bool, piece: &[u8]) -> bool
     ensures { Says (E.seen err.old) (E.seen err.new) failed result piece.now }
 {

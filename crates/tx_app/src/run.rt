@@ -44,7 +44,7 @@ fn failures(sent: Sent) -> u64
     if sent.failed { 1 } else { 0 }
 }
 
-/// The cause of a run whose last refresh has this entry, behind the closing bytes.
+/// The cause of a run whose last refresh has this entry, after the closing bytes.
 fn end_cause(entry: Entry, closed: Sent) -> Option<Cause>
     ensures { result ≡ entry_cause entry closed }
 {
@@ -56,7 +56,7 @@ fn end_cause(entry: Entry, closed: Sent) -> Option<Cause>
     }
 }
 
-/// One refresh and then the closing bytes, unless memory is wanting before.
+/// One refresh and then the closing bytes, unless memory runs out before.
 fn show<K: Sink, L: Ledger>(
     alloc: Global,
     tree: &Tree,
@@ -165,7 +165,7 @@ fn run<F: Files, K: Sink, L: Ledger>(
 /// after the mode, each at most once, or without, sends one whole update of the picture of the tree
 /// under the sheet, in that same state, to `out`, and then the closing bytes, each as far as `out`
 /// takes it. Where the picture is undefined only the closing bytes are sent. The tree is loaded
-/// once, and the sheet once behind a tree that is taken. Nothing is sent before all is read.
+/// once, and the sheet once, after a tree that is taken. Nothing is sent before all is read.
 ///
 /// A tree is refused at the first line that breaks a rule of its grammar; else with NoCustom at the
 /// first row of a kind that isn't built in; else with Inline at the first row whose inline text is
@@ -191,7 +191,7 @@ pub fn top_alone<F: Files, K: Sink, E: Sink, L: Ledger>(
     ensures sink_fault { CausedBy (sink_faults result.cause) (K.seen out.old).faults (K.seen out.new).faults }
 
     // Words and files that are accepted, a picture that is defined, and no rise of a count give status 0
-    // or want of memory.
+    // or out of memory.
     ensures complete { IfSome (F.seen files.old).contents (λ told. IsComplete (map string_bytes words.now) told
         (F.seen files.old).faults (F.seen files.new).faults (K.seen out.old).faults (K.seen out.new).faults result.cause) }
 

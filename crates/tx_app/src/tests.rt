@@ -384,7 +384,7 @@ fn a_file_has_at_most_4_mib(rt: HostRuntime) -> Result<(), Fail> {
     )
 }
 
-/// Nothing is loaded behind a load that failed: the second failure isn't met.
+/// Nothing is loaded after a load that failed: the second failure isn't met.
 #[test]
 fn a_failed_load_ends_the_run(rt: HostRuntime) -> Result<(), Fail> {
     let missing = &["tx", "show", "t.tree", "other.tcss"];

@@ -40,7 +40,7 @@ OpeningsAreRead = (tree sheet : List ℕ) (value : TreeValue) (found : Found) �
 
 -- ---- the first fault of a tree file
 
--- Of these rows, the first of which stands in a line, the first that is so stands in another. The count stands still at 2^32 - 1.
+-- Of these rows, the first of which stands in a line, the first that is so stands in another. The count saturates at 2^32 - 1.
 pub record IsFirstRow (is : Row → Bool) (rows : List Row) (start line : ℕ) : Type 0 where
   pub front : List Row
   pub row : Row
@@ -57,6 +57,6 @@ IsFirstOf bytes line (Tree kind) = IsFirstFault bytes line kind
 IsFirstOf bytes line NoCustom = (rows : List Row) × (tree_of bytes ≡ Ok rows) × IsFirstRow (is_unknown []) rows 1 line
 IsFirstOf bytes line Inline = (rows : List Row) × (tree_of bytes ≡ Ok rows) × AreBuiltIn rows × IsFirstRow is_unread rows 1 line
 
--- what is told of a tree file is its first fault
+-- what is reported of a tree file is its first fault
 abbrev pub FaultsAreFirst : Type 0
 FaultsAreFirst = (bytes : List ℕ) (line : ℕ) (kind : RowsRefusal) → rows_of [] bytes ≡ Err (line, kind) → IsFirstOf bytes line kind

@@ -23,7 +23,7 @@ Wrong = ℕ × RowsRefusal
 
 -- ---- lines
 
--- The line of the row below one that stands in this line: each binding has a line of its own. The count stands still at 2^32 - 1, to
+-- The line of the row below one that stands in this line: each binding has a line of its own. The count saturates at 2^32 - 1, to
 -- which no file of fewer than 2^32 bytes comes.
 abbrev pub line_below : ℕ → Row → ℕ
 line_below line row = min (line + (1 + length row.binds)) (2 ^ 32 - 1)
@@ -87,12 +87,12 @@ opening_of known tree sheet = with_rows (rows_of known tree) sheet
 
 -- ---- what the readers answer
 
--- the line and what is wrong there, and nothing of want of memory
+-- the line and what is wrong there, and nothing where memory ran out
 abbrev pub told : RowsFault → Option Wrong
 told (At line kind) = Some (line, kind)
 told NoMemory = None
 
--- a fault of a file, and nothing of want of memory
+-- a fault of a file, and nothing where memory ran out
 abbrev pub told_of_opening : OpeningFault → Option OpeningFault
 told_of_opening (whole.Rows line kind) = Some (whole.Rows line kind)
 told_of_opening (whole.Sheet line column kind) = Some (whole.Sheet line column kind)

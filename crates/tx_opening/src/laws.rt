@@ -10,7 +10,7 @@ pub fn openings_are_read()
     tx_tree_file::laws::files_are_read();
 }
 
-/// What is told of a tree file is its first fault: of the grammar, else of the kinds, else of the
+/// What is reported of a tree file is its first fault: of the grammar, else of the kinds, else of the
 /// inline texts.
 pub fn faults_are_first()
     ensures { FaultsAreFirst }

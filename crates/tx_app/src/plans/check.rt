@@ -13,7 +13,7 @@ use std::alloc::{AllocError, Global};
 use tx_io::Files;
 use tx_parse::{Sheet, SheetFault, read_sheet};
 
-/// Adds these words and a number behind them.
+/// Adds these words and a number after them.
 fn push_count(out: &mut Vec<u8>, words: &[u8], count: usize) -> Result<(), AllocError>
     ensures { OnOk result (out.new.items ≡ out.old.items ++ words.now ++ decimal count) }
 {

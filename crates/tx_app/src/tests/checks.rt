@@ -122,7 +122,7 @@ fn the_sheet_alone_is_loaded(rt: HostRuntime) -> Result<(), Fail> {
     refuses(&rt, &failing, 3, "tx: read fault\n")
 }
 
-/// A sink that fails once has a front of the line.
+/// A sink that fails once has a prefix of the line.
 #[test]
 fn a_sink_may_fail_at_each_byte(rt: HostRuntime) -> Result<(), Fail> {
     let line = b"rules 0, declarations 0, variables 0\n".as_slice();

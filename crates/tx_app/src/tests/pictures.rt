@@ -63,7 +63,7 @@ fn a_covered_half_is_blank(rt: HostRuntime) -> Result<(), Fail> {
     pictures(&rt, &given, size, " x  \n")
 }
 
-/// Of two docks at one edge the later one is above, and the rest begins behind the wider one.
+/// Of two docks at one edge the later one is above, and the rest begins after the wider one.
 #[test]
 fn docks_stand_over_each_other(rt: HostRuntime) -> Result<(), Fail> {
     let given = Given {

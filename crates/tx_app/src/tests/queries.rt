@@ -79,7 +79,7 @@ fn the_tree_alone_is_loaded(rt: HostRuntime) -> Result<(), Fail> {
     refuses(&rt, &wrong, 2, "tx: t.tree:2:1: Expected\n")
 }
 
-/// A sink that fails once has a front of the lines.
+/// A sink that fails once has a prefix of the lines.
 #[test]
 fn a_sink_may_fail_at_each_byte(rt: HostRuntime) -> Result<(), Fail> {
     let lines = b"3 Container #q\n4 Button #b\n5 Static #n\n".as_slice();

@@ -18,7 +18,7 @@ pub struct Made {
     pub answer: Result<Vec<u8>, LoadFault>,
 }
 
-/// Files in memory that tell their loads. Where memory is wanting for that the test is ended.
+/// Files in memory that report their loads. Where memory runs out for that the test is ended.
 #[derive(Drop)]
 pub struct Recorded<'a, R> {
     rt: &'a R,

@@ -1,4 +1,4 @@
-//! Which fault of a tree and a sheet is told.
+//! Which fault of a tree and a sheet is reported.
 use crate::{OpeningFault, read_opening};
 use std::alloc::Global;
 use std::test::Fail;
