@@ -1,0 +1,12 @@
+pub mod State
+pub mod Opening
+pub mod Waiting
+pub mod Outcome
+pub mod Effects
+pub mod Arrive
+pub mod Serve
+pub mod Refresh
+pub mod History
+pub mod Changes
+pub mod Order
+pub mod Laws
