@@ -1,4 +1,7 @@
-use crate::{cells_text, files_of, grid_of, grid_text, lines_of, number_of, pair_of, sheet_of, tree_of, tree_text, words_of};
+use crate::{
+    cells_text, files_of, grid_of, grid_text, lines_of, number_of, pair_of, sheet_of, tree_of,
+    tree_text, words_of,
+};
 use std::test::Fail;
 use tx_cell::Pen;
 use tx_expect::expect;
